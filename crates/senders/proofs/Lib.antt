@@ -1,0 +1,3 @@
+pub mod TallyLaws
+pub mod SetLaws
+pub mod WordLaws

@@ -1,0 +1,16 @@
+use mathlib.Core.Path.{_≡_}
+use borrow.Author.Needs.{needs}
+use native.Mathlib.Omega.{arith}
+use lib.Pow.{pow-pos}
+use Rattle.senders.proofs.WordLaws.{shl-one}
+use Rattle.senders.proofs.first.Statement.{statement}
+use Rattle.senders.proofs.first.Tie as tie
+
+pub first-spec : {M : Type 1} → statement M
+first-spec =
+    tie.close
+    (tie.spec
+    (λ c. search needs)
+    (λ c. rw (shl-one (c .before .args .c) (c .if1 .taken)) (pow-pos (c .before .args .c)))
+    (λ c. rw (shl-one (c .before .args .c) (c .if1 .taken)))
+    (λ c. let e : c .before .args .c ≡ 64 = omega arith in rw e))

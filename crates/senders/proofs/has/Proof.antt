@@ -1,0 +1,9 @@
+use borrow.Author.Needs.{needs}
+use mathlib.Core.Path.{refl}
+use Rattle.senders.specs.Set.{mem}
+use Rattle.senders.proofs.has.Statement.{statement}
+use Rattle.senders.proofs.has.Tie as tie
+
+pub has-spec : {M : Type 1} → statement M
+unfolding mem
+has-spec = tie.close (tie.spec (λ c. search needs) (λ c. refl))

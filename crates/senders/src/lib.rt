@@ -1,0 +1,66 @@
+// A set of up to 64 senders is a u64: bit q for sender q.
+ghost use mathlib.Core.Path.{_≡_};
+ghost use Prim.Native.Nat.{_+_, _-_, _^_, _≤_, _<_};
+ghost use Rattle.senders.specs.Tally.{count, least};
+ghost use Rattle.senders.specs.Set.{mem, insert, missing, correctCount, faultyCount};
+
+// Is q in the set?
+pub fn has(set: u64, q: u64) -> bool
+    requires { ⌜ q < 64 ⌝ }
+    ensures { λ r. ⌜ r ≡ mem set q ⌝ }
+{
+    (set >> q) % 2 == 1
+}
+
+// The set with q in it: a sender that is there already is not counted twice.
+pub fn with(set: u64, q: u64) -> u64
+    requires { ⌜ q < 64 ⌝ }
+    ensures { λ r. ⌜ r ≡ insert q set ⌝ }
+{
+    set | (1u64 << q)
+}
+
+// The senders below c, as a set.
+fn first(c: u64) -> u64
+    requires { ⌜ c ≤ 64 ⌝ }
+    ensures { λ r. ⌜ r ≡ 2 ^ c - 1 ⌝ }
+{
+    if c < 64 {
+        (1u64 << c) - 1
+    } else {
+        0xffff_ffff_ffff_ffff
+    }
+}
+
+// How many of the senders below c are in the set.
+pub fn correct_count(set: u64, c: u64) -> u64
+    requires { ⌜ c ≤ 64 ⌝ }
+    ensures { λ r. ⌜ (r ≡ correctCount c set) × (r ≤ 64) ⌝ }
+{
+    u64::count_ones(set & first(c)) as u64
+}
+
+// How many of the f senders from c on are in the set.
+pub fn faulty_count(set: u64, c: u64, f: u64) -> u64
+    requires { ⌜ f + c ≤ 64 ⌝ }
+    ensures { λ r. ⌜ (r ≡ faultyCount c f set) × (r ≤ 64) ⌝ }
+{
+    u64::count_ones(set & (first(f + c) - first(c))) as u64
+}
+
+// How many members of the set below c are missing from the other.
+pub fn missing_count(set: u64, other: u64, c: u64) -> u64
+    requires { ⌜ c ≤ 64 ⌝ }
+    ensures { λ r. ⌜ (r ≡ count c (missing set other)) × (r ≤ 64) ⌝ }
+{
+    correct_count(set & !other, c)
+}
+
+// The lowest member of the set below c that is missing from the other; c where none is.
+pub fn lowest_missing(set: u64, other: u64, c: u64) -> u64
+    requires { ⌜ c ≤ 64 ⌝ }
+    ensures { λ r. ⌜ (r ≡ least c (missing set other)) × (r ≤ c) ⌝ }
+{
+    let q = u64::trailing_zeros(set & !other) as u64;
+    if q < c { q } else { c }
+}
