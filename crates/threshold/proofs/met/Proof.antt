@@ -1,0 +1,44 @@
+use mathlib.Core.Path.{_∙_, ap}
+use borrow.Author.Needs.{needs}
+use native.Mathlib.Omega.{arith}
+use lib.Signed.{mag}
+use Rattle.threshold.specs.Threshold.{thresholdOf}
+use Rattle.threshold.proofs.SizeLaws.{back}
+use Rattle.threshold.proofs.met.Statement.{statement}
+use Rattle.threshold.proofs.met.Tie as tie
+
+scaled-requires : tie.Need-scaled-requires
+scaled-requires c κs = search needs
+
+scaled-requires-2 : tie.Need-scaled-requires-2
+scaled-requires-2 c κs = search needs
+
+plus-requires : tie.Need-plus-requires
+plus-requires c κs = rw (back (c .before .scaled .result) (c .before .scaled .ok), back (c .scaled2 .result) (c .scaled2 .ok)) (omega arith)
+
+signed-requires : tie.Need-signed-requires
+signed-requires c κs = search needs
+
+plus-requires-2 : tie.Need-plus-requires-2
+plus-requires-2 c κs =
+    let x = c .before .before .before .scaled in
+    let y = c .before .before .scaled2 in
+    rw (back (c .before .plus .result) (c .before .plus .ok), back (c .signed .result) (c .signed .ok))
+    (omega (arith, ap mag (back (x .result) (x .ok)), ap mag (back (y .result) (y .ok))))
+
+at-most-requires : tie.Need-at-most-requires
+at-most-requires c κs = search needs
+
+returns : tie.Need-returns
+unfolding thresholdOf
+returns c =
+    let x = c .before .before .before .before .before .scaled in
+    let y = c .before .before .before .before .scaled2 in
+    let p = c .before .before .before .plus in
+    let d = c .before .before .signed in
+    let s = c .before .plus2 in
+    c .at-most .ensures
+    ∙ rw (back (s .result) (s .ok), s .ensures .0, back (p .result) (p .ok), p .ensures .0, back (x .result) (x .ok), back (y .result) (y .ok), back (d .result) (d .ok), x .ensures .0, y .ensures .0, d .ensures .0)
+
+pub met-spec : {M : Type 1} → statement M
+met-spec = tie.close (tie.spec scaled-requires scaled-requires-2 plus-requires signed-requires plus-requires-2 at-most-requires returns)

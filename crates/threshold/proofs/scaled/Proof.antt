@@ -1,0 +1,25 @@
+use borrow.Author.Needs.{needs}
+use native.Mathlib.Omega.{arith}
+use mir.Facts.{toZ-ofZ}
+use Rattle.threshold.proofs.SizeLaws.{back, small, mag-mul}
+use Rattle.threshold.proofs.scaled.Statement.{statement}
+use Rattle.threshold.proofs.scaled.Tie as tie
+
+signed-requires : tie.Need-signed-requires
+signed-requires c κs = search needs
+
+cast-result : tie.Need-cast-result
+cast-result c = search needs
+
+mul-result : tie.Need-mul-result
+mul-result c =
+    rw (back (c .signed .result) (c .signed .ok), small (c .before .args .n) (omega arith))
+    (record { sfits = omega (arith, mag-mul (c .signed .result) (c .before .args .n) 128 64 (c .signed .ensures .1) (c .before .pre)) })
+
+returns : tie.Need-returns
+returns c =
+    rw (toZ-ofZ (mul-result c), back (c .signed .result) (c .signed .ok), small (c .before .args .n) (omega arith))
+    (rw (c .signed .ensures .0), mag-mul (c .signed .result) (c .before .args .n) 128 64 (c .signed .ensures .1) (c .before .pre))
+
+pub scaled-spec : {M : Type 1} → statement M
+scaled-spec = tie.close (tie.spec signed-requires cast-result mul-result returns)
