@@ -1,0 +1,14 @@
+-- Bytes and little-endian numbers of a part, and where its trailer stands (outline, "Bundle layout").
+use Prim.Native.Nat.{ℕ, _+_, _-_, _*_}
+use mathlib.Core.List.{List}
+use lib.ListN.{length, getD}
+
+abbrev pub byteAt : List ℕ → ℕ → ℕ
+byteAt s i = getD s i 0
+
+abbrev pub u16At : List ℕ → ℕ → ℕ
+u16At s i = byteAt s i + 256 * byteAt s (i + 1)
+
+-- a trailer is the last eight bytes of its part
+abbrev pub trailerOf : List ℕ → ℕ
+trailerOf s = length s - 8

@@ -1,0 +1,66 @@
+// What every reading stage says and reads: verdicts, bytes and little-endian numbers.
+ghost use mathlib.Core.Path.{_≡_};
+ghost use Prim.Native.Nat.{_+_, _-_, _*_, _≤_, _<_};
+ghost use lib.ListN.{length};
+ghost use Rattle.fault.specs.Bytes.{byteAt, u16At, trailerOf};
+ghost use Rattle.fault.specs.Tests as tests;
+ghost use Rattle.fault.specs.Fault.{verdict};
+
+// A refusal and its place; 0 and 0 where nothing is refused.
+pub struct Verdict {
+    pub number: usize,
+    pub place: usize,
+}
+
+// The refusal of a number at a place.
+pub fn refusal(number: usize, place: usize) -> Verdict
+    ensures { λ r. ⌜ r ≡ verdict number place ⌝ }
+{
+    Verdict { number, place }
+}
+
+// Is x not in lo .. hi?
+pub fn outside(lo: usize, hi: usize, x: usize) -> bool
+    ensures { λ r. ⌜ r ≡ tests.outside lo hi x ⌝ }
+{
+    (x < lo) | (hi < x)
+}
+
+// The product of two numbers of at most 16 bits, which never wraps.
+pub fn times(a: usize, b: usize) -> usize
+    requires { ⌜ (a < 65536) × (b < 65536) ⌝ }
+    ensures { λ r. ⌜ (r ≡ a * b) × (r < 4294967296) ⌝ }
+{
+    a * b
+}
+
+// The byte at i, as a number.
+pub fn byte_at(s: &[u8], i: usize) -> usize
+    requires { ⌜ i < length (now s) ⌝ }
+    ensures { λ r. ⌜ (r ≡ byteAt (now (s .entry)) i) × (r < 256) ⌝ }
+{
+    wide(s[i])
+}
+
+fn wide(x: u8) -> usize
+    ensures { λ r. ⌜ (r ≡ x) × (r < 256) ⌝ }
+{
+    x as usize
+}
+
+// Byte k of the trailer.
+pub fn trailer_byte(s: &[u8], k: usize) -> usize
+    requires { ⌜ (8 ≤ length (now s)) × (k < 8) ⌝ }
+    ensures { λ r. ⌜ (r ≡ byteAt (now (s .entry)) (trailerOf (now (s .entry)) + k)) × (r < 256) ⌝ }
+{
+    byte_at(s, s.len() - 8 + k)
+}
+
+// The little-endian number at bytes k and k + 1 of the trailer.
+pub fn trailer_u16(s: &[u8], k: usize) -> usize
+    requires { ⌜ (8 ≤ length (now s)) × (k < 7) ⌝ }
+    ensures { λ r. ⌜ (r ≡ u16At (now (s .entry)) (trailerOf (now (s .entry)) + k)) × (r < 65536) ⌝ }
+{
+    let at = s.len() - 8 + k;
+    byte_at(s, at) + 256 * byte_at(s, at + 1)
+}
