@@ -1,0 +1,11 @@
+use borrow.Author.Needs.{needs}
+use Rattle.table.proofs.from.Statement.{statement}
+use Rattle.table.proofs.from.Tie as tie
+
+pub from-spec : {M : Type 1} → statement M
+from-spec =
+    tie.close
+    (tie.spec
+    (λ c κs. search needs)
+    (λ c κs. search needs)
+    (λ c. (cc, search needs)))

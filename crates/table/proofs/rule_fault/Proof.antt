@@ -1,0 +1,19 @@
+use borrow.Author.Needs.{needs}
+use Rattle.fault.proofs.FaultLaws.{if-yes, if-no}
+use Rattle.table.proofs.TableLaws.{rule-ends}
+use Rattle.table.specs.Refusals.{ruleFault}
+use Rattle.table.proofs.rule_fault.Statement.{statement}
+use Rattle.table.proofs.rule_fault.Tie as tie
+
+pub rule-fault-spec : {M : Type 1} → statement M
+unfolding ruleFault
+rule-fault-spec =
+    tie.close
+    (tie.spec
+    (λ c κs. search needs)
+    (λ c. search (if-yes, if-no, needs))
+    (λ c κs. (search needs, search rule-ends))
+    (λ c. search (if-yes, if-no, needs))
+    (λ c κs. (search needs, search rule-ends))
+    (λ c. search (if-yes, if-no, needs))
+    (λ c. search (if-yes, if-no, needs)))

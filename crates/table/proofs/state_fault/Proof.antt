@@ -1,0 +1,14 @@
+use borrow.Author.Needs.{needs}
+use Rattle.fault.proofs.FaultLaws.{if-yes, if-no}
+use Rattle.table.specs.Refusals.{stateFault}
+use Rattle.table.proofs.state_fault.Statement.{statement}
+use Rattle.table.proofs.state_fault.Tie as tie
+
+pub state-fault-spec : {M : Type 1} → statement M
+unfolding stateFault
+state-fault-spec =
+    tie.close
+    (tie.spec
+    (λ c κs. search needs)
+    (λ c. search (if-yes, needs))
+    (λ c. search (if-no, needs)))

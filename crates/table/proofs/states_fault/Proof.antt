@@ -1,0 +1,29 @@
+use mathlib.Core.Path.{_≡_}
+use Prim.Native.Nat.{_≤_, _-_}
+use borrow.Author.Needs.{needs}
+use Rattle.fault.proofs.FaultLaws.{first-none, first-found, first-more, first-never}
+use Rattle.fault.specs.Fault.{fine, firstFault}
+use Rattle.table.specs.Refusals.{stateFault}
+use Rattle.table.proofs.states_fault.Statement.{statement}
+use Rattle.table.proofs.states_fault.Tie as tie
+
+abbrev Inv-loop : tie.InvT-loop
+Inv-loop s n i₀ i = (i ≤ n) × (firstFault (stateFault s) i ≡ fine)
+
+abbrev μ-loop : tie.MeasureT-loop
+μ-loop s n i₀ i = n - i
+
+pub states-fault-spec : {M : Type 1} → statement M
+states-fault-spec =
+    tie.close
+    (tie.spec
+    Inv-loop
+    μ-loop
+    (λ c κs. search needs)
+    (λ c. (search needs, first-none (stateFault _)))
+    (λ c κs. search needs)
+    (λ c. search (first-found, needs))
+    (λ c. search needs)
+    (λ c. search needs)
+    (λ c. (search needs, search first-more))
+    (λ c. search (first-never, needs)))

@@ -1,0 +1,28 @@
+use borrow.Author.Needs.{needs}
+use Rattle.fault.proofs.FaultLaws.{if-yes, if-no, then-stop, then-pass}
+use Rattle.table.proofs.TableLaws.{long-by, sized-by}
+use Rattle.table.specs.Refusals.{tableFault}
+use Rattle.table.proofs.table_fault.Statement.{statement}
+use Rattle.table.proofs.table_fault.Tie as tie
+
+pub table-fault-spec : {M : Type 1} → statement M
+unfolding tableFault
+table-fault-spec =
+    tie.close
+    (tie.spec
+    (λ c κs. search needs)
+    (λ c κs. search needs)
+    (λ c. search (if-yes, if-no, then-stop, then-pass, needs))
+    (λ c κs. search long-by)
+    (λ c κs. search needs)
+    (λ c. search (if-yes, if-no, then-stop, then-pass, needs))
+    (λ c κs. search long-by)
+    (λ c κs. search needs)
+    (λ c. search (if-yes, if-no, then-stop, then-pass, needs))
+    (λ c κs. search sized-by)
+    (λ c. search (if-yes, if-no, then-stop, then-pass, needs))
+    (λ c κs. search sized-by)
+    (λ c κs. search needs)
+    (λ c. search (if-yes, if-no, then-stop, then-pass, needs))
+    (λ c κs. search sized-by)
+    (λ c. search (if-yes, if-no, then-stop, then-pass, needs)))

@@ -1,0 +1,12 @@
+use borrow.Author.Needs.{needs}
+use Rattle.table.proofs.to.Statement.{statement}
+use Rattle.table.proofs.to.Tie as tie
+
+pub to-spec : {M : Type 1} → statement M
+to-spec =
+    tie.close
+    (tie.spec
+    (λ c κs. search needs)
+    (λ c. search needs)
+    (λ c κs. search needs)
+    (λ c. (cc, search needs)))

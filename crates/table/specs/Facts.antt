@@ -1,0 +1,45 @@
+-- What a table that is not refused gives to the stages above, as named facts. They follow from `tableFault`: proofs/TableLaws.antt.
+use mathlib.Core.Path.{_≡_}
+use mathlib.Core.Bool.{true, false}
+use mathlib.Core.List.{List}
+use Prim.Native.Nat.{ℕ, _+_, _*_, _^_, _≤_, _<_}
+use lib.ListN.{length}
+use Rattle.senders.specs.Tally.{count, some}
+use Rattle.senders.specs.Set.{missing}
+use Rattle.table.specs.Table.{statesOf, rulesOf, typesOf, factorOf, flagsOf, initialOf, sentOf, ruleSize, fromOf, toOf}
+
+-- its sizes (refusals 1 to 3)
+pub record Sized (s : List ℕ) : Type 0 where
+  pub long : 8 ≤ length s
+  pub some-state : 1 ≤ statesOf s
+  pub few-states : statesOf s ≤ 16
+  pub some-rule : 1 ≤ rulesOf s
+  pub few-rules : rulesOf s ≤ 64
+  pub some-type : 1 ≤ typesOf s
+  pub few-types : typesOf s ≤ 4
+  pub some-factor : 1 ≤ factorOf s
+  pub few-factor : factorOf s ≤ 8
+  pub whole : length s ≡ 2 * statesOf s + rulesOf s * ruleSize s + 8
+
+-- a state (refusal 4)
+pub record StateFits (s : List ℕ) (i : ℕ) : Type 0 where
+  pub flags : flagsOf s i ≤ 3
+  pub sent : sentOf s i < 2 ^ typesOf s
+  pub fresh : initialOf s i ≡ true → sentOf s i ≡ 0
+
+-- a rule's ends (refusal 6)
+pub record RuleEnds (s : List ℕ) (r : ℕ) : Type 0 where
+  pub from : fromOf s r < statesOf s
+  pub to : toOf s r < statesOf s
+
+-- a rule (refusals 6 to 8): the paper's assumptions A1, nothing is forgotten, and A2, at most one new type
+pub record RuleFits (s : List ℕ) (r : ℕ) : Type 0 where
+  pub ends : RuleEnds s r
+  pub keeps : (m : ℕ) → m < typesOf s → missing (sentOf s (fromOf s r)) (sentOf s (toOf s r)) m ≡ false
+  pub one-new : count (typesOf s) (missing (sentOf s (toOf s r)) (sentOf s (fromOf s r))) ≤ 1
+
+pub record WellFormed (s : List ℕ) : Type 0 where
+  pub sized : Sized s
+  pub state : (i : ℕ) → i < statesOf s → StateFits s i
+  pub some-initial : some (statesOf s) (initialOf s) ≡ true
+  pub rule : (r : ℕ) → r < rulesOf s → RuleFits s r

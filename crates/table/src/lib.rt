@@ -1,0 +1,267 @@
+// The table part: refusals 1 to 8, and the views that stepping needs.
+ghost use mathlib.Core.Path.{_≡_};
+ghost use Prim.Native.Nat.{_+_, _≤_, _<_};
+ghost use lib.ListN.{length};
+ghost use Rattle.senders.specs.Tally.{count};
+ghost use Rattle.senders.specs.Set.{missing};
+ghost use Rattle.fault.specs.Fault.{firstFault};
+ghost use Rattle.table.specs.Table.{statesOf, rulesOf, typesOf, factorOf, flagsOf, initialOf, sentOf, ruleSize, ruleAt, fromOf, toOf};
+ghost use Rattle.table.specs.Refusals.{tooShort, countsOff, distancesOff, stateOff, noInitial, noState, sendsTwo, stateFault, ruleFault, tableFault};
+ghost use Rattle.table.specs.Refusals as refusals;
+ghost use Rattle.table.specs.Facts.{Sized, RuleEnds};
+use fault::Verdict;
+
+// The table's first refusal, for every byte string.
+pub fn table_fault(s: &[u8]) -> Verdict
+    ensures { λ r. ⌜ r ≡ tableFault (now (s .entry)) ⌝ }
+{
+    if too_short(s) {
+        return fault::refusal(1, 0);
+    }
+    if counts_off(s) {
+        return fault::refusal(2, 0);
+    }
+    if distances_off(s) {
+        return fault::refusal(3, 0);
+    }
+    let v = states_fault(s);
+    if v.number != 0 {
+        return v;
+    }
+    if no_initial(s) {
+        return fault::refusal(5, 0);
+    }
+    rules_fault(s)
+}
+
+// ---- the trailer
+pub fn states(s: &[u8]) -> usize
+    requires { ⌜ 8 ≤ length (now s) ⌝ }
+    ensures { λ r. ⌜ (r ≡ statesOf (now (s .entry))) × (r < 256) ⌝ }
+{
+    fault::trailer_byte(s, 4)
+}
+
+pub fn rules(s: &[u8]) -> usize
+    requires { ⌜ 8 ≤ length (now s) ⌝ }
+    ensures { λ r. ⌜ (r ≡ rulesOf (now (s .entry))) × (r < 256) ⌝ }
+{
+    fault::trailer_byte(s, 5)
+}
+
+pub fn types(s: &[u8]) -> usize
+    requires { ⌜ 8 ≤ length (now s) ⌝ }
+    ensures { λ r. ⌜ (r ≡ typesOf (now (s .entry))) × (r < 256) ⌝ }
+{
+    fault::trailer_byte(s, 6)
+}
+
+pub fn factor(s: &[u8]) -> usize
+    requires { ⌜ 8 ≤ length (now s) ⌝ }
+    ensures { λ r. ⌜ (r ≡ factorOf (now (s .entry))) × (r < 256) ⌝ }
+{
+    fault::trailer_byte(s, 7)
+}
+
+// 1
+fn too_short(s: &[u8]) -> bool
+    ensures { λ r. ⌜ r ≡ tooShort (now (s .entry)) ⌝ }
+{
+    s.len() < 8
+}
+
+// 2
+fn counts_off(s: &[u8]) -> bool
+    requires { ⌜ 8 ≤ length (now s) ⌝ }
+    ensures { λ r. ⌜ r ≡ countsOff (now (s .entry)) ⌝ }
+{
+    fault::outside(1, 16, states(s))
+        | fault::outside(1, 64, rules(s))
+        | fault::outside(1, 4, types(s))
+        | fault::outside(1, 8, factor(s))
+}
+
+// 3
+fn distances_off(s: &[u8]) -> bool
+    requires { ⌜ 8 ≤ length (now s) ⌝ }
+    ensures { λ r. ⌜ r ≡ distancesOff (now (s .entry)) ⌝ }
+{
+    let rules = fault::times(rules(s), 2 + 3 * types(s));
+    let back = fault::trailer_u16(s, 0);
+    (back != 2 * states(s) + rules) | (fault::trailer_u16(s, 2) != rules) | (s.len() != back + 8)
+}
+
+// ---- the states
+pub fn flags(s: &[u8], i: usize) -> usize
+    requires { ⌜ (Sized (now s)) × (i < statesOf (now s)) ⌝ }
+    ensures { λ r. ⌜ (r ≡ flagsOf (now (s .entry)) i) × (r < 256) ⌝ }
+{
+    fault::byte_at(s, 2 * i)
+}
+
+// The mask of the types that a state has sent.
+pub fn sent(s: &[u8], i: usize) -> usize
+    requires { ⌜ (Sized (now s)) × (i < statesOf (now s)) ⌝ }
+    ensures { λ r. ⌜ (r ≡ sentOf (now (s .entry)) i) × (r < 256) ⌝ }
+{
+    fault::byte_at(s, 2 * i + 1)
+}
+
+pub fn initial(s: &[u8], i: usize) -> bool
+    requires { ⌜ (Sized (now s)) × (i < statesOf (now s)) ⌝ }
+    ensures { λ r. ⌜ r ≡ initialOf (now (s .entry)) i ⌝ }
+{
+    senders::has(flags(s, i) as u64, 0)
+}
+
+// 4
+fn state_off(s: &[u8], i: usize) -> bool
+    requires { ⌜ (Sized (now s)) × (i < statesOf (now s)) ⌝ }
+    ensures { λ r. ⌜ r ≡ stateOff (now (s .entry)) i ⌝ }
+{
+    let sent = sent(s, i);
+    (3 < flags(s, i)) | ((1usize << types(s)) <= sent) | (initial(s, i) & (0 < sent))
+}
+
+fn state_fault(s: &[u8], i: usize) -> usize
+    requires { ⌜ (Sized (now s)) × (i < statesOf (now s)) ⌝ }
+    ensures { λ r. ⌜ r ≡ stateFault (now (s .entry)) i ⌝ }
+{
+    if state_off(s, i) { 4 } else { 0 }
+}
+
+// The lowest state at fault.
+fn states_fault(s: &[u8]) -> Verdict
+    requires { ⌜ Sized (now s) ⌝ }
+    ensures { λ r. ⌜ r ≡ firstFault (stateFault (now (s .entry))) (statesOf (now (s .entry))) ⌝ }
+{
+    let n = states(s);
+    let mut i = 0;
+    while i < n {
+        let k = state_fault(s, i);
+        if k != 0 {
+            return Verdict {
+                number: k,
+                place: i,
+            };
+        }
+        i += 1;
+    }
+    Verdict {
+        number: 0,
+        place: 0,
+    }
+}
+
+// 5
+fn no_initial(s: &[u8]) -> bool
+    requires { ⌜ Sized (now s) ⌝ }
+    ensures { λ r. ⌜ r ≡ noInitial (now (s .entry)) ⌝ }
+{
+    let n = states(s);
+    let mut i = 0;
+    while i < n {
+        if initial(s, i) {
+            return false;
+        }
+        i += 1;
+    }
+    true
+}
+
+// ---- the rules
+// Where a rule's record starts. The whole record lies before the trailer.
+pub fn rule_at(s: &[u8], k: usize) -> usize
+    requires { ⌜ (Sized (now s)) × (k < rulesOf (now s)) ⌝ }
+    ensures { λ r. ⌜ (r ≡ ruleAt (now (s .entry)) k) × (r + ruleSize (now (s .entry)) + 8 ≤ length (now (s .entry))) ⌝ }
+{
+    2 * states(s) + fault::times(k, 2 + 3 * types(s))
+}
+
+pub fn from(s: &[u8], k: usize) -> usize
+    requires { ⌜ (Sized (now s)) × (k < rulesOf (now s)) ⌝ }
+    ensures { λ r. ⌜ (r ≡ fromOf (now (s .entry)) k) × (r < 256) ⌝ }
+{
+    fault::byte_at(s, rule_at(s, k))
+}
+
+pub fn to(s: &[u8], k: usize) -> usize
+    requires { ⌜ (Sized (now s)) × (k < rulesOf (now s)) ⌝ }
+    ensures { λ r. ⌜ (r ≡ toOf (now (s .entry)) k) × (r < 256) ⌝ }
+{
+    fault::byte_at(s, rule_at(s, k) + 1)
+}
+
+// 6
+fn no_state(s: &[u8], k: usize) -> bool
+    requires { ⌜ (Sized (now s)) × (k < rulesOf (now s)) ⌝ }
+    ensures { λ r. ⌜ r ≡ noState (now (s .entry)) k ⌝ }
+{
+    let n = states(s);
+    (n <= from(s, k)) | (n <= to(s, k))
+}
+
+// How many types state a has sent and state b has not.
+fn unsent(s: &[u8], a: usize, b: usize) -> u64
+    requires { ⌜ (Sized (now s)) × (a < statesOf (now s)) × (b < statesOf (now s)) ⌝ }
+    ensures { λ r. ⌜ r ≡ count (typesOf (now (s .entry))) (missing (sentOf (now (s .entry)) a) (sentOf (now (s .entry)) b)) ⌝ }
+{
+    senders::missing_count(sent(s, a) as u64, sent(s, b) as u64, types(s) as u64)
+}
+
+// 7
+fn forgets(s: &[u8], k: usize) -> bool
+    requires { ⌜ (Sized (now s)) × (k < rulesOf (now s)) ⌝ }
+    requires { ⌜ RuleEnds (now s) k ⌝ }
+    ensures { λ r. ⌜ r ≡ refusals.forgets (now (s .entry)) k ⌝ }
+{
+    0 < unsent(s, from(s, k), to(s, k))
+}
+
+// 8
+fn sends_two(s: &[u8], k: usize) -> bool
+    requires { ⌜ (Sized (now s)) × (k < rulesOf (now s)) ⌝ }
+    requires { ⌜ RuleEnds (now s) k ⌝ }
+    ensures { λ r. ⌜ r ≡ sendsTwo (now (s .entry)) k ⌝ }
+{
+    1 < unsent(s, to(s, k), from(s, k))
+}
+
+fn rule_fault(s: &[u8], k: usize) -> usize
+    requires { ⌜ (Sized (now s)) × (k < rulesOf (now s)) ⌝ }
+    ensures { λ r. ⌜ r ≡ ruleFault (now (s .entry)) k ⌝ }
+{
+    if no_state(s, k) {
+        return 6;
+    }
+    if forgets(s, k) {
+        return 7;
+    }
+    if sends_two(s, k) {
+        return 8;
+    }
+    0
+}
+
+// The lowest rule at fault.
+fn rules_fault(s: &[u8]) -> Verdict
+    requires { ⌜ Sized (now s) ⌝ }
+    ensures { λ r. ⌜ r ≡ firstFault (ruleFault (now (s .entry))) (rulesOf (now (s .entry))) ⌝ }
+{
+    let n = rules(s);
+    let mut i = 0;
+    while i < n {
+        let k = rule_fault(s, i);
+        if k != 0 {
+            return Verdict {
+                number: k,
+                place: i,
+            };
+        }
+        i += 1;
+    }
+    Verdict {
+        number: 0,
+        place: 0,
+    }
+}
