@@ -1,0 +1,22 @@
+use borrow.Author.Needs.{needs}
+use Rattle.bundle.proofs.BundleLaws.{long-by, trailed, table-sized}
+use Rattle.bundle.specs.Refusals.{faultWith}
+use Rattle.fault.proofs.FaultLaws.{if-yes, if-no, then-stop, then-pass}
+use Rattle.bundle.proofs.fault_with.Statement.{statement}
+use Rattle.bundle.proofs.fault_with.Tie as tie
+
+pub fault-with-spec : {M : Type 1} → statement M
+unfolding faultWith
+fault-with-spec =
+    tie.close
+    (tie.spec
+    (λ c κs. search needs)
+    (λ c κs. search needs)
+    (λ c. search (if-yes, if-no, then-stop, then-pass, needs))
+    (λ c κs. search long-by)
+    (λ c κs. search needs)
+    (λ c. search (if-yes, if-no, then-stop, then-pass, needs))
+    (λ c κs. search needs)
+    (λ c. search (if-yes, if-no, then-stop, then-pass, needs))
+    (λ c κs. (search table-sized, search trailed))
+    (λ c. search (if-yes, if-no, then-stop, then-pass, needs)))

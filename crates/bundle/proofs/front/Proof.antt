@@ -1,0 +1,17 @@
+use native.Mathlib.Omega.{arith}
+use borrow.Author.Needs.{needs}
+use Rattle.bundle.specs.Bundle.{frontLength}
+use Rattle.bundle.proofs.front.Statement.{statement}
+use Rattle.bundle.proofs.front.Tie as tie
+
+pub front-spec : {M : Type 1} → statement M
+unfolding frontLength
+front-spec =
+    tie.close
+    (tie.spec
+    (λ c. omega arith)
+    (λ c κs. search needs)
+    (λ c. search needs)
+    (λ c. search needs)
+    (λ c. omega arith)
+    (λ c. omega arith))

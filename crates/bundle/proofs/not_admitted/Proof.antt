@@ -1,0 +1,17 @@
+use borrow.Author.Needs.{needs}
+use Rattle.bundle.specs.Refusals.{notAdmitted}
+use Rattle.bundle.proofs.not_admitted.Statement.{statement}
+use Rattle.bundle.proofs.not_admitted.Tie as tie
+
+pub not-admitted-spec : {M : Type 1} → statement M
+unfolding notAdmitted
+not-admitted-spec =
+    tie.close
+    (tie.spec
+    (λ c κs. search needs)
+    (λ c κs. search needs)
+    (λ c κs. search needs)
+    (λ c κs. search needs)
+    (λ c κs. search needs)
+    (λ c κs. search needs)
+    (λ c. cc))

@@ -1,0 +1,22 @@
+use borrow.Author.Needs.{needs}
+use Rattle.bundle.proofs.BundleLaws.{parted, admitted-with, starts-last}
+use Rattle.bundle.specs.Refusals.{scheduleFault}
+use Rattle.fault.proofs.FaultLaws.{if-yes, if-no}
+use Rattle.bundle.proofs.schedule_fault.Statement.{statement}
+use Rattle.bundle.proofs.schedule_fault.Tie as tie
+
+pub schedule-fault-spec : {M : Type 1} → statement M
+unfolding scheduleFault
+schedule-fault-spec =
+    tie.close
+    (tie.spec
+    (λ c κs. search needs)
+    (λ c κs. search needs)
+    (λ c κs. search needs)
+    (λ c. search (if-yes, if-no, admitted-with, starts-last, needs))
+    (λ c κs. search needs)
+    (λ c κs. search needs)
+    (λ c. search (if-yes, if-no, admitted-with, starts-last, needs))
+    (λ c κs. (search needs, search parted))
+    (λ c κs. search needs)
+    (λ c. search (if-yes, if-no, admitted-with, starts-last, needs)))

@@ -1,0 +1,18 @@
+use borrow.Author.Needs.{needs}
+use Rattle.bundle.proofs.BundleLaws.{steps-are}
+use Rattle.bundle.proofs.steps.Statement.{statement}
+use Rattle.bundle.proofs.steps.Tie as tie
+
+pub steps-spec : {M : Type 1} → statement M
+steps-spec =
+    tie.close
+    (tie.spec
+    (λ c κs. search needs)
+    (λ c κs. search needs)
+    (λ c. search needs)
+    (λ c κs. search needs)
+    (λ c. search needs)
+    (λ c. search needs)
+    (λ c. search needs)
+    (λ c. search needs)
+    (λ c. search steps-are))

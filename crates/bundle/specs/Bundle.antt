@@ -1,0 +1,48 @@
+-- The bundle: the front, then the schedule part: start bytes, step records, trailer (outline, "Bundle layout").
+use mathlib.Core.List.{List}
+use Prim.Native.Nat.{ℕ, _+_, _-_}
+use lib.Dec.{eqb}
+use lib.ListN.{length, take, drop}
+use Rattle.fault.specs.Bytes.{byteAt, u16At, trailerOf}
+use Rattle.fault.specs.Fault.{_if_else_}
+
+-- ---- trailer, 8 bytes: distances to the first step and the first start byte, n, t, f, form
+abbrev pub stepDistance : List ℕ → ℕ
+stepDistance b = u16At b (trailerOf b + 0)
+
+abbrev pub startDistance : List ℕ → ℕ
+startDistance b = u16At b (trailerOf b + 2)
+
+abbrev pub nOf : List ℕ → ℕ
+nOf b = byteAt b (trailerOf b + 4)
+
+abbrev pub tOf : List ℕ → ℕ
+tOf b = byteAt b (trailerOf b + 5)
+
+abbrev pub fOf : List ℕ → ℕ
+fOf b = byteAt b (trailerOf b + 6)
+
+-- 0 message, 1 counting
+abbrev pub formOf : List ℕ → ℕ
+formOf b = byteAt b (trailerOf b + 7)
+
+-- how many boards are correct: C = n - f
+abbrev pub correctOf : List ℕ → ℕ
+correctOf b = nOf b - fOf b
+
+-- ---- the parts
+-- the schedule part is as long as its second distance plus 8; what precedes it is the front
+unfoldable pub frontLength : List ℕ → ℕ
+frontLength b = length b - (startDistance b + 8)
+
+-- the front, or where that is empty, the standing table lent beside the bundle
+unfoldable pub tableInUse : List ℕ → List ℕ → List ℕ
+tableInUse b standing = standing if eqb (frontLength b) 0 else take (frontLength b) b
+
+-- a start byte for each correct board
+unfoldable pub startsOf : List ℕ → List ℕ
+startsOf b = take (correctOf b) (drop (frontLength b) b)
+
+-- the step records, 4 bytes each: board, rule, type, source
+unfoldable pub stepsOf : List ℕ → List ℕ
+stepsOf b = take (stepDistance b) (drop (frontLength b + correctOf b) b)
