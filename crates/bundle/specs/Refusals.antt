@@ -42,7 +42,11 @@ scheduleFault table b =
     firstFault (startFault table (startsOf b)) (correctOf b)
 
 unfoldable pub faultWith : List ℕ → List ℕ → Verdict
-faultWith table b = refused 10 if noTrailer b else refused 11 if outOfBundle b else tableFault table ▹ scheduleFault table b
+faultWith table b =
+    refused 10 if noTrailer b else
+    refused 11 if outOfBundle b else
+    tableFault table ▹
+    scheduleFault table b
 
 -- the first refusal of a bundle beside a standing table
 abbrev pub readFault : List ℕ → List ℕ → Verdict

@@ -15,7 +15,7 @@ use Rattle.fault.specs.Fault.{refused, _if_else_, firstFault}
 use Rattle.fault.proofs.FaultLaws.{if-passed, then-clean, first-clean, Clean}
 use Rattle.fault.proofs.TestLaws.{or-none, inside, same}
 use Rattle.table.specs.Table.{stateDistance, ruleDistance, statesOf, rulesOf, typesOf, factorOf, flagsOf, initialOf, sentOf, ruleSize, ruleAt, fromOf}
-use Rattle.table.specs.Refusals.{tooShort, countsOff, distancesOff, stateOff, noInitial, noState, forgets, sendsTwo, stateFault, ruleFault, tableFault}
+use Rattle.table.specs.Refusals.{tooShort, countsOff, distancesOff, stateOff, noInitial, noState, forgets, sendsTwo, stateFault, ruleFault, recordsFault, tableFault}
 use Rattle.table.specs.Facts.{Sized, StateFits, RuleEnds, RuleFits, WellFormed}
 
 pub long : (s : List ℕ) → tooShort s ≡ false → 8 ≤ length s
@@ -124,7 +124,7 @@ unfolding noInitial
 initial-never s e p h w = ap not (some-never (initialOf s) e p h w)
 
 pub well-formed : (s : List ℕ) → Clean (tableFault s) → WellFormed s
-unfolding tableFault noInitial
+unfolding tableFault recordsFault noInitial
 well-formed s h =
     let a = if-passed Clean (refused 1) (tooShort s) _ (λ z. omega arith) h in
     let b = if-passed Clean (refused 2) (countsOff s) _ (λ z. omega arith) (a .1) in

@@ -51,11 +51,15 @@ stateFault s i = 4 if stateOff s i else 0
 unfoldable pub ruleFault : List ℕ → ℕ → ℕ
 ruleFault s r = 6 if noState s r else 7 if forgets s r else 8 if sendsTwo s r else 0
 
+unfoldable pub recordsFault : List ℕ → Verdict
+recordsFault s =
+    firstFault (stateFault s) (statesOf s) ▹
+    refused 5 if noInitial s else
+    firstFault (ruleFault s) (rulesOf s)
+
 unfoldable pub tableFault : List ℕ → Verdict
 tableFault s =
     refused 1 if tooShort s else
     refused 2 if countsOff s else
     refused 3 if distancesOff s else
-    firstFault (stateFault s) (statesOf s) ▹
-    refused 5 if noInitial s else
-    firstFault (ruleFault s) (rulesOf s)
+    recordsFault s

@@ -6,7 +6,7 @@ ghost use Rattle.senders.specs.Tally.{count};
 ghost use Rattle.senders.specs.Set.{missing};
 ghost use Rattle.fault.specs.Fault.{firstFault};
 ghost use Rattle.table.specs.Table.{statesOf, rulesOf, typesOf, factorOf, flagsOf, initialOf, sentOf, ruleSize, ruleAt, fromOf, toOf};
-ghost use Rattle.table.specs.Refusals.{tooShort, countsOff, distancesOff, stateOff, noInitial, noState, sendsTwo, stateFault, ruleFault, tableFault};
+ghost use Rattle.table.specs.Refusals.{tooShort, countsOff, distancesOff, stateOff, noInitial, noState, sendsTwo, stateFault, ruleFault, recordsFault, tableFault};
 ghost use Rattle.table.specs.Refusals as refusals;
 ghost use Rattle.table.specs.Facts.{Sized, RuleEnds};
 use fault::Verdict;
@@ -24,6 +24,14 @@ pub fn table_fault(s: &[u8]) -> Verdict
     if distances_off(s) {
         return fault::refusal(3, 0);
     }
+    records_fault(s)
+}
+
+// The first refusal of the records, once the trailer is read.
+fn records_fault(s: &[u8]) -> Verdict
+    requires { ⌜ Sized (now s) ⌝ }
+    ensures { λ r. ⌜ r ≡ recordsFault (now (s .entry)) ⌝ }
+{
     let v = states_fault(s);
     if v.number != 0 {
         return v;

@@ -49,5 +49,6 @@ pub byte-high : (x : ℕ) → 128 ≤ x → signedByte x ≡ negsuc (255 - x)
 unfolding signedByte
 byte-high x h = rw (le-ltb x 128 h)
 
+-- the high half: a byte less 256
 pub down : (x : ℕ) → x < 256 → pos x -ℤ pos 256 ≡ negsuc (255 - x)
 down x h = rw (lt-ltb x 256 h) (ap negsuc (omega arith))

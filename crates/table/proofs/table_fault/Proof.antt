@@ -1,5 +1,5 @@
 use borrow.Author.Needs.{needs}
-use Rattle.fault.proofs.FaultLaws.{if-yes, if-no, then-stop, then-pass}
+use Rattle.fault.proofs.FaultLaws.{if-yes, if-no}
 use Rattle.table.proofs.TableLaws.{long-by, sized-by}
 use Rattle.table.specs.Refusals.{tableFault}
 use Rattle.table.proofs.table_fault.Statement.{statement}
@@ -12,17 +12,12 @@ table-fault-spec =
     (tie.spec
     (λ c κs. search needs)
     (λ c κs. search needs)
-    (λ c. search (if-yes, if-no, then-stop, then-pass, needs))
+    (λ c. search (if-yes, if-no, needs))
     (λ c κs. search long-by)
     (λ c κs. search needs)
-    (λ c. search (if-yes, if-no, then-stop, then-pass, needs))
+    (λ c. search (if-yes, if-no, needs))
     (λ c κs. search long-by)
     (λ c κs. search needs)
-    (λ c. search (if-yes, if-no, then-stop, then-pass, needs))
+    (λ c. search (if-yes, if-no, needs))
     (λ c κs. search sized-by)
-    (λ c. search (if-yes, if-no, then-stop, then-pass, needs))
-    (λ c κs. search sized-by)
-    (λ c κs. search needs)
-    (λ c. search (if-yes, if-no, then-stop, then-pass, needs))
-    (λ c κs. search sized-by)
-    (λ c. search (if-yes, if-no, then-stop, then-pass, needs)))
+    (λ c. search (if-yes, if-no, needs)))

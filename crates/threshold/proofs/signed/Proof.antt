@@ -14,5 +14,5 @@ signed-spec =
     (λ c. search needs)
     (λ c. search needs)
     (λ c. rw (small (c .before .args .x) (omega arith), down (c .before .args .x) (omega arith)) (record { sfits = omega arith }))
-    (λ c. rw (small (c .before .args .x) (omega arith), ← byte-low (c .before .args .x) (c .if1 .taken)) (refl, omega arith))
-    (λ c. rw (small (c .before .args .x) (omega arith), down (c .before .args .x) (omega arith), back (negsuc (255 - c .before .args .x)) (omega arith), ← byte-high (c .before .args .x) (c .if1 .left)) (refl, omega arith)))
+    (λ c. rw (small (c .before .args .x) (omega arith), ← byte-low (c .before .args .x) (omega arith)) (refl, omega arith))
+    (λ c. rw (small (c .before .args .x) (omega arith), down (c .before .args .x) (omega arith), back (negsuc (255 - c .before .args .x)) (omega arith), ← byte-high (c .before .args .x) (omega arith)) (refl, omega arith)))
