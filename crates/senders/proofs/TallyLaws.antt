@@ -1,12 +1,13 @@
 -- Laws of `count`, `some`, `every` and `least`.
 use mathlib.Core.Path.{_≡_, refl, sym, ap, ap₂, _∙_}
 use mathlib.Core.Logic.{_≢_}
-use mathlib.Core.Bool.{Bool, true, false, _&&_, _||_, false≢true, or-true}
+use mathlib.Core.Bool.{Bool, true, false, not, _&&_, _||_, false≢true, and-false, or-true}
 use Prim.Native.Nat.{ℕ, zero, suc, _+_, _≤_, _<_, suc-le-suc}
 use native.Mathlib.Nat.{not-suc-le-zero, le-refl, le-of-suc-le-suc, zero-lt-suc, add-zero, add-suc}
 use native.Mathlib.Numerals.{add-one}
 use native.Mathlib.Omega.{arith}
 use native.Mathlib.Decide.{ℕ-discrete}
+use borrow.Author.Tests.{not-true, not-false}
 use Rattle.senders.specs.Tally.{digit, count, some, every, least, leastIf, Least}
 
 pub and-both : (a b : Bool) → (a && b) ≡ true → (a ≡ true) × (b ≡ true)
@@ -71,6 +72,35 @@ count-one-more (suc k) q P Q h p t e = go (ℕ-discrete k q) (λ l. count-one-mo
     go (yes s) ih = rw (s, t, p, count-same q Q P (λ i l. e i (omega arith) (omega arith))) (omega arith)
     go (no s) ih = rw (e k (le-refl (suc k)) s) (omega (arith, ih (omega arith)))
 
+count-some : (k : ℕ) (P : ℕ → Bool) (m : ℕ) → m < k → P m ≡ true → 1 ≤ count k P
+unfolding count
+count-some zero P m h t = absurd (not-suc-le-zero h)
+count-some (suc k) P m h t = go (ℕ-discrete m k) (λ l. count-some k P m l t)
+  where
+    go : Dec (m ≡ k) → (m < k → 1 ≤ count k P) → 1 ≤ count k P + digit (P k)
+    go (yes e) ih = let p : P k ≡ true = rw (← e) t in rw p (omega arith)
+    go (no e) ih = omega (arith, ih (omega arith))
+
+count-two : (k : ℕ) (P : ℕ → Bool) (m j : ℕ) → m < k → j < k → j ≢ m → P m ≡ true → P j ≡ true → 2 ≤ count k P
+unfolding count
+count-two zero P m j h l o t u = absurd (not-suc-le-zero h)
+count-two (suc k) P m j h l o t u = go (ℕ-discrete m k) (ℕ-discrete j k) (λ a b. count-two k P m j a b o t u)
+  where
+    go : Dec (m ≡ k) → Dec (j ≡ k) → (m < k → j < k → 2 ≤ count k P) → 2 ≤ count k P + digit (P k)
+    go (yes e) (yes f) ih = absurd (o (f ∙ sym e))
+    go (yes e) (no f) ih = let p : P k ≡ true = rw (← e) t in rw p (omega (arith, count-some k P j (omega arith) u))
+    go (no e) (yes f) ih = let p : P k ≡ true = rw (← f) u in rw p (omega (arith, count-some k P m (omega arith) t))
+    go (no e) (no f) ih = omega (arith, ih (omega arith) (omega arith))
+
+-- where at most one passes, no other does
+pub count-only : (k : ℕ) (P : ℕ → Bool) (m : ℕ) → count k P ≤ 1 → m < k → P m ≡ true → (j : ℕ) → j < k → j ≢ m → P j ≡ false
+count-only k P m c hm t j hj o = go (P j) refl
+  where
+    go : (b : Bool) → P j ≡ b → P j ≡ false
+    go false e = e
+    go true e =
+        absurd (omega (arith, count-two k P m j hm hj o t e))
+
 -- fewer pass P than Q: one passes Q and not P
 pub record Gap (k : ℕ) (P Q : ℕ → Bool) : Type 0 where
   pub at : ℕ
@@ -132,6 +162,36 @@ unfolding every
 every-made zero P f = refl
 every-made (suc k) P f = and-made (every k P) (P k) (every-made k P (λ i l. f i (omega arith))) (f k (le-refl (suc k)))
 
+pub every-same : (k : ℕ) (P Q : ℕ → Bool) → ((i : ℕ) → i < k → P i ≡ Q i) → every k P ≡ every k Q
+unfolding every
+every-same zero P Q e = refl
+every-same (suc k) P Q e = rw (e k (le-refl (suc k)), every-same k P Q (λ i h. e i (omega arith)))
+
+every-fails : (k i : ℕ) (P : ℕ → Bool) → i < k → P i ≡ false → every k P ≡ false
+unfolding every
+every-fails zero i P h f = absurd (not-suc-le-zero h)
+every-fails (suc k) i P h f = go (ℕ-discrete i k) (λ l. every-fails k i P l f)
+  where
+    go : Dec (i ≡ k) → (i < k → every k P ≡ false) → (every k P && P k) ≡ false
+    go (yes e) ih = let p : P k ≡ false = rw (← e) f in rw p (and-false (every k P))
+    go (no e) ih = rw (ih (omega arith))
+
+-- the turns and ends of a loop that looks for one that fails, with the answer b, not the test's, in hand
+module _ (P : ℕ → Bool) where
+  pub every-none : every 0 P ≡ true
+  unfolding every
+  every-none = refl
+
+  pub every-more : {b : Bool} (i : ℕ) → every i P ≡ true → b ≡ not (P i) → b ≡ false → every (i + 1) P ≡ true
+  unfolding every
+  every-more {b} i h e f = rw (add-one, h) (not-false (P i) (sym e ∙ f))
+
+  pub every-failed : {b : Bool} {i n : ℕ} → b ≡ not (P i) → b ≡ true → i < n → true ≡ not (every n P)
+  every-failed {b} {i} {n} e t h = ap not (sym (every-fails n i P h (not-true (P i) (sym e ∙ t))))
+
+  pub every-held : {i n : ℕ} → every i P ≡ true → i ≤ n → n ≤ i → false ≡ not (every n P)
+  every-held {i} {n} h p q = let r : n ≡ i = omega arith in rw (r, h)
+
 -- ---- least
 pub least-same : (k : ℕ) (P Q : ℕ → Bool) → ((i : ℕ) → i < k → P i ≡ Q i) → least k P ≡ least k Q
 unfolding least
@@ -156,6 +216,28 @@ least-is (suc k) P q h t = go (P 0) refl q h t (λ j. least-is k (λ i. P (suc i
     go false e (suc j) h t ih =
         let r = ih j (le-of-suc-le-suc h) t in
         record { below = suc-le-suc (r .below); passes = r .passes; first = before P (least k (λ i. P (suc i))) e (r .first) }
+
+-- what the search passes over does not pass, and what it finds does
+pub least-first : (k : ℕ) (P : ℕ → Bool) (i : ℕ) → i < least k P → P i ≡ false
+unfolding least
+least-first zero P i h = absurd (not-suc-le-zero h)
+least-first (suc k) P i h = go (P 0) refl i h (λ j. least-first k (λ i. P (suc i)) j)
+  where
+    go : (b : Bool) → P 0 ≡ b → (i : ℕ) → i < leastIf b (least k (λ i. P (suc i)))
+        → ((j : ℕ) → j < least k (λ i. P (suc i)) → P (suc j) ≡ false) → P i ≡ false
+    go true e i h ih = absurd (not-suc-le-zero h)
+    go false e zero h ih = e
+    go false e (suc i) h ih = ih i (le-of-suc-le-suc h)
+
+pub least-found : (k : ℕ) (P : ℕ → Bool) → least k P < k → P (least k P) ≡ true
+unfolding least
+least-found zero P h = absurd (not-suc-le-zero h)
+least-found (suc k) P h = go (P 0) refl h (least-found k (λ i. P (suc i)))
+  where
+    go : (b : Bool) → P 0 ≡ b → leastIf b (least k (λ i. P (suc i))) < suc k → (least k (λ i. P (suc i)) < k → P (suc (least k (λ i. P (suc i)))) ≡ true)
+        → P (leastIf b (least k (λ i. P (suc i)))) ≡ true
+    go true e h ih = e
+    go false e h ih = ih (le-of-suc-le-suc h)
 
 -- a search over k numbers, cut at c: Q passes below c what P passes
 pub record Cut (c k : ℕ) (P Q : ℕ → Bool) : Type 0 where

@@ -1,0 +1,6 @@
+pub mod FormCases
+pub mod PlaceLaws
+pub mod StepLaws
+pub mod KeepLaws
+pub mod RunLaws
+pub mod EntryLaws

@@ -1,0 +1,18 @@
+use mathlib.Core.Path.{_≡_}
+use Prim.Native.Nat.{ℕ, _+_}
+use native.Mathlib.Omega.{arith}
+use borrow.Author.Needs.{needs}
+use Rattle.engine.proofs.FormCases.{sets, counts}
+use Rattle.paper.specs.Form.{bump}
+use Rattle.engine.proofs.form.bump.Statement.{statement}
+use Rattle.engine.proofs.form.bump.Tie as tie
+
+pub bump-spec : {M : Type 1} → statement M
+unfolding bump
+bump-spec =
+    tie.close
+    (tie.spec
+    (λ c κs. search needs)
+    (λ c. omega (arith, c .before .pre .1 (c .if1 .left)))
+    (λ c. sets (λ (k : ℕ). c .with .result ≡ bump k (c .before .before .args .q) (c .before .before .args .word)) (c .with .ensures) _ (c .before .if1 .taken))
+    (λ c. counts (λ (k : ℕ). c .before .args .word + 1 ≡ bump k (c .before .args .q) (c .before .args .word)) (λ j. omega arith) _ (c .if1 .left)))

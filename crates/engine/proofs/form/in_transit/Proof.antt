@@ -1,0 +1,18 @@
+use mathlib.Core.Path.{_≡_}
+use Prim.Native.Nat.{ℕ}
+use borrow.Author.Needs.{needs}
+use Rattle.engine.proofs.FormCases.{sets, counts}
+use Rattle.paper.specs.Form.{two, coll, shown}
+use Rattle.paper.specs.Paper.{column}
+use Rattle.engine.proofs.form.in_transit.Statement.{statement}
+use Rattle.engine.proofs.form.in_transit.Tie as tie
+
+pub in-transit-spec : {M : Type 1} → statement M
+unfolding coll shown
+in-transit-spec =
+    tie.close
+    (tie.spec
+    (λ c κs. search needs)
+    (λ c κs. search needs)
+    (λ c. sets (λ (k : ℕ). c .set-in-transit .result ≡ column k (c .before .before .args .c) (c .before .before .args .f) .inTransit (c .before .before .args .q) (coll k (c .before .before .args .c) (c .before .before .args .f) (two (c .before .before .args .v) (c .before .before .args .w))) (shown k (c .before .before .args .c) (c .before .before .args .f) (c .before .before .args .out))) (c .set-in-transit .ensures) _ (c .before .if1 .taken))
+    (λ c. counts (λ (k : ℕ). c .count-in-transit .result ≡ column k (c .before .before .args .c) (c .before .before .args .f) .inTransit (c .before .before .args .q) (coll k (c .before .before .args .c) (c .before .before .args .f) (two (c .before .before .args .v) (c .before .before .args .w))) (shown k (c .before .before .args .c) (c .before .before .args .f) (c .before .before .args .out))) (λ j. c .count-in-transit .ensures) _ (c .before .if1 .left)))

@@ -1,0 +1,18 @@
+use mathlib.Core.Path.{ap, _∙_}
+use borrow.Author.Needs.{needs}
+use Rattle.engine.proofs.EntryLaws.{suits, starts-long, start-holds, steps-few, same-run}
+use Rattle.engine.specs.Entry.{ranAnswer}
+use Rattle.paper.specs.Run.{Ran}
+use Rattle.engine.proofs.run_in.Statement.{statement}
+use Rattle.engine.proofs.run_in.Tie as tie
+
+pub run-in-spec : {M : Type 1} → statement M
+run-in-spec =
+    tie.close
+    (tie.spec
+    (λ c κs. search needs)
+    (λ c κs. (starts-long (c .before .before .before .before .before .args .table .now) (c .before .before .before .before .before .args .bundle .now) (c .before .before .before .before .before .pre .0) (c .before .before .before .before .before .pre .1) (c .before .starts .ensures), c .before .before .before .before .before .pre .2))
+    (λ c κs. search needs)
+    (λ c κs. let f = steps-few (c .before .before .before .before .before .before .before .before .before .before .args .table .now) (c .before .before .before .before .before .before .before .before .before .before .args .bundle .now) (c .before .before .before .before .before .before .before .before .before .before .pre .0) (c .before .steps .ensures) in (suits (c .before .before .before .before .before .before .before .before .before .before .args .table .now) (c .before .before .before .before .before .before .before .before .before .before .args .bundle .now) (c .before .before .before .before .before .before .before .before .before .before .pre .0) (c .before .before .before .before .before .before .before .before .before .before .pre .1), start-holds (c .before .before .before .before .before .before .before .before .before .before .args .table .now) (c .before .before .before .before .before .before .before .before .before .before .args .bundle .now) (c .before .before .before .before .before .before .before .before .before .before .pre .0) (c .before .before .before .before .before .before .before .before .before .before .pre .1) (c .before .before .before .before .before .before .starts .ensures) (c .before .before .before .before .begin .ensures), f .0, f .1))
+    (λ c. search needs)
+    (λ c. (c .before .before .run-steps .ensures .0 ∙ ap ranAnswer (same-run (c .before .before .before .before .before .before .before .before .before .before .before .before .before .args .table .now) (c .before .before .before .before .before .before .before .before .before .before .before .before .before .args .bundle .now) (c .before .before .before .before .before .before .before .before .before .before .before .before .before .pre .1) (c .before .before .before .before .before .before .before .before .before .starts .ensures) (c .before .before .before .before .before .before .before .begin .ensures) (c .before .before .before .before .steps .ensures)), c .before .before .run-steps .ensures .1 ∙ ap (λ (r : Ran). r .words) (same-run (c .before .before .before .before .before .before .before .before .before .before .before .before .before .args .table .now) (c .before .before .before .before .before .before .before .before .before .before .before .before .before .args .bundle .now) (c .before .before .before .before .before .before .before .before .before .before .before .before .before .pre .1) (c .before .before .before .before .before .before .before .before .before .starts .ensures) (c .before .before .before .before .before .before .before .begin .ensures) (c .before .before .before .before .steps .ensures)))))

@@ -1,0 +1,18 @@
+use native.Mathlib.Omega.{arith}
+use borrow.Author.Needs.{needs}
+use Rattle.engine.proofs.PlaceLaws.{cells-few, words-few}
+use Rattle.paper.specs.Words.{sentAt}
+use Rattle.engine.proofs.words.sent.Statement.{statement}
+use Rattle.engine.proofs.words.sent.Tie as tie
+
+pub sent-spec : {M : Type 1} → statement M
+unfolding sentAt
+sent-spec =
+    tie.close
+    (tie.spec
+    (λ c. omega (arith, cells-few (c .before .args .s) (c .before .pre .0)))
+    (λ c κs. search needs)
+    (λ c. omega (arith, words-few (c .before .before .args .s) (c .before .before .pre .0) (c .wide .result) (c .wide .ensures .2)))
+    (λ c. omega (arith, words-few (c .before .before .before .args .s) (c .before .before .before .pre .0) (c .before .wide .result) (c .before .wide .ensures .2)))
+    (λ c. omega (arith, words-few (c .before .before .before .args .s) (c .before .before .before .pre .0) (c .before .wide .result) (c .before .wide .ensures .2)))
+    (λ c. (rw (c .before .wide .ensures .0), omega (arith, words-few (c .before .before .before .args .s) (c .before .before .before .pre .0) (c .before .wide .result) (c .before .wide .ensures .2)))))

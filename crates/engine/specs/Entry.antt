@@ -1,0 +1,62 @@
+-- What `run` answers and leaves, for every bundle, standing table and lent words (outline, "Numbers given back").
+use mathlib.Core.List.{List, _++_}
+use Prim.Native.Nat.{ℕ}
+use lib.Dec.{eqb}
+use lib.ListN.{length, drop}
+use Rattle.fault.specs.declared.Verdict.{Verdict}
+use Rattle.fault.specs.Tests.{_below_, _differs_}
+use Rattle.fault.specs.Fault.{refused, _if_else_}
+use Rattle.bundle.specs.Bundle.{tableInUse, startsOf, stepsOf}
+use Rattle.bundle.specs.Refusals.{readFault}
+use Rattle.paper.specs.Paper.{Design, Step}
+use Rattle.paper.specs.Words.{start}
+use Rattle.paper.specs.Form.{wide}
+use Rattle.paper.specs.Run.{stepsIn, Ran, run}
+use Rattle.engine.specs.declared.Sizes.{Sizes}
+use Rattle.engine.specs.declared.Answer.{Answer}
+use Rattle.engine.specs.Design.{sizesOf, designOf, roomOf}
+
+-- ---- a bundle with its table in use
+abbrev pub scheduleOf : List ℕ → List Step
+scheduleOf b = stepsIn (stepsOf b)
+
+-- the first configuration: the start states, nothing received, nothing sent
+abbrev pub startOf : List ℕ → List ℕ → List ℕ
+startOf table b = start (sizesOf table b .types) (wide (sizesOf table b .form)) (startsOf b)
+
+-- the schedule, run from there
+unfoldable pub ranWith : List ℕ → List ℕ → Ran
+ranWith table b = run (sizesOf table b .form) (designOf (sizesOf table b) table) (startOf table b) (scheduleOf b)
+
+-- ---- beside a standing table
+abbrev pub sizesIn : List ℕ → List ℕ → Sizes
+sizesIn b standing = sizesOf (tableInUse b standing) b
+
+abbrev pub designIn : List ℕ → List ℕ → Design
+designIn b standing = designOf (sizesIn b standing) (tableInUse b standing)
+
+abbrev pub ranOf : List ℕ → List ℕ → Ran
+ranOf b standing = ranWith (tableInUse b standing) b
+
+-- ---- refusal, place, steps accepted
+-- a refusal before the first step: its own place, and no step
+abbrev pub unrun : Verdict → Answer
+unrun v = record { refusal = v .number; place = v .place; count = 0 }
+
+-- a run: a refused step's place is the number of the steps before it
+unfoldable pub ranAnswer : Ran → Answer
+ranAnswer r = record { refusal = r .refusal; place = 0 if eqb (r .refusal) 0 else r .accepted; count = r .accepted }
+
+-- what reading refuses; 30: lent output shorter than the words needed; then the steps
+unfoldable pub runAnswer : List ℕ → List ℕ → ℕ → Answer
+runAnswer b standing lent =
+    unrun (readFault b standing) if readFault b standing .number differs 0 else
+    unrun (refused 30) if lent below roomOf (sizesIn b standing) else
+    ranAnswer (ranOf b standing)
+
+-- a refusal before the first step changes no word; a run leaves its configuration, and the words past it as they were
+unfoldable pub runWords : List ℕ → List ℕ → List ℕ → List ℕ
+runWords b standing words =
+    words if readFault b standing .number differs 0 else
+    words if length words below roomOf (sizesIn b standing) else
+    ranOf b standing .words ++ drop (roomOf (sizesIn b standing)) words

@@ -1,0 +1,37 @@
+-- What the functions below the entry may count on; the entry proves it from what reading gives.
+use mathlib.Core.Path.{_≡_}
+use mathlib.Core.List.{List}
+use Prim.Native.Nat.{ℕ, _+_, _≤_, _<_}
+use lib.ListN.{length, getD}
+use Rattle.table.specs.Table.{rulesOf, typesOf}
+use Rattle.table.specs.Facts.{WellFormed}
+use Rattle.engine.specs.declared.Sizes.{Sizes}
+use Rattle.engine.specs.Design.{roomOf}
+use Rattle.engine.specs.Words.{columnIn}
+
+-- the numbers are small enough
+pub record Bounded (s : Sizes) : Type 0 where
+  pub boards : s .correct + s .faulty ≤ 64
+  pub types : s .types ≤ 4
+  pub t : s .t ≤ 63
+
+-- they are those of a well-formed table
+pub record Suits (s : Sizes) (table : List ℕ) : Type 0 where
+  pub bounded : Bounded s
+  pub formed : WellFormed table
+  pub types : s .types ≡ typesOf table
+  pub rules : s .rules ≡ rulesOf table
+
+-- the words are as many as a configuration has, and in counting form none is over k
+pub record Holds (s : Sizes) (k : ℕ) (w : List ℕ) : Type 0 where
+  pub fits : length w ≡ roomOf s
+  pub small : (s .form ≡ 0 → ⊥) → (i : ℕ) → getD w i 0 ≤ k
+
+-- a board and a type that there are
+pub record At (s : Sizes) (p m : ℕ) : Type 0 where
+  pub board : p < s .correct
+  pub type : m < s .types
+
+-- and a source
+pub record Source (s : Sizes) (q : ℕ) : Type 0 where
+  pub below : q < columnIn s .sources

@@ -1,0 +1,4 @@
+pub mod Design
+pub mod Entry
+pub mod Facts
+pub mod Words

@@ -1,0 +1,80 @@
+// The form, on numbers: what the words of a cell and a sent word come to. Nothing above looks at the form's number.
+ghost use mathlib.Core.Path.{_≡_};
+ghost use Prim.Native.Nat.{_+_, _≤_, _<_};
+ghost use Rattle.paper.specs.Paper.{passing, counting, column};
+ghost use Rattle.paper.specs.Form.{two, coll, shown};
+ghost use Rattle.paper.specs.Form as forms;
+
+// How many words a cell has.
+pub fn wide(form: usize) -> usize
+    ensures { λ r. ⌜ (r ≡ forms.wide form) × (1 ≤ r) × (r ≤ 2) ⌝ }
+{
+    if form == 0 { 1 } else { 2 }
+}
+
+// The word of a cell that a message from q changes.
+pub fn slot(form: usize, q: usize) -> usize
+    ensures { λ r. ⌜ (r ≡ forms.slot form q) × (r ≤ q) ⌝ }
+{
+    if form == 0 { 0 } else { q }
+}
+
+// A word after a message from q.
+pub fn bump(form: usize, q: usize, word: u64) -> u64
+    requires { ⌜ q < 64 ⌝ }
+    requires { ⌜ ((form ≡ 0 → ⊥) → word ≤ 1000000) ⌝ }
+    ensures { λ r. ⌜ r ≡ forms.bump form q word ⌝ }
+{
+    if form == 0 {
+        senders::with(word, q as u64)
+    } else {
+        word + 1
+    }
+}
+
+// How many messages there are: 0 .. n-1 by their senders, or the two tags.
+pub fn sources(form: usize, c: usize, f: usize) -> usize
+    requires { ⌜ c + f ≤ 64 ⌝ }
+    ensures { λ r. ⌜ (r ≡ column form c f .sources) × (r ≤ 64) ⌝ }
+{
+    if form == 0 { c + f } else { 2 }
+}
+
+// How many messages the two words of a cell hold; in message form they are the same word.
+pub fn card(form: usize, c: usize, f: usize, v: u64, w: u64) -> u64
+    requires { ⌜ c + f ≤ 64 ⌝ }
+    requires { ⌜ ((form ≡ 0 → ⊥) → (v ≤ 1000000) × (w ≤ 1000000)) ⌝ }
+    ensures { λ r. ⌜ (r ≡ column form c f .card (coll form c f (two v w))) × (r ≤ 2000000) ⌝ }
+{
+    if form == 0 {
+        senders::correct_count(v, (c + f) as u64)
+    } else {
+        v + w
+    }
+}
+
+// Is a message from q in transit, by the two words of the receiver's cell and the sent word?
+pub fn in_transit(form: usize, c: usize, f: usize, q: usize, v: u64, w: u64, out: u64) -> bool
+    requires { ⌜ (q < 64) × (f ≤ 64) ⌝ }
+    ensures { λ r. ⌜ r ≡ column form c f .inTransit q (coll form c f (two v w)) (shown form c f out) ⌝ }
+{
+    if form == 0 {
+        set_in_transit(c, f, q, v, out)
+    } else {
+        count_in_transit(c, f, q, v, w, out)
+    }
+}
+
+fn set_in_transit(c: usize, f: usize, q: usize, got: u64, out: u64) -> bool
+    requires { ⌜ q < 64 ⌝ }
+    ensures { λ r. ⌜ r ≡ passing c f .inTransit q got out ⌝ }
+{
+    let has = senders::has(got, q as u64);
+    ((q < c) & (senders::has(out, q as u64) & !has)) | ((c <= q) & !has)
+}
+
+fn count_in_transit(c: usize, f: usize, q: usize, v: u64, w: u64, out: u64) -> bool
+    ensures { λ r. ⌜ r ≡ counting c f .inTransit q (coll 1 c f (two v w)) (shown 1 c f out) ⌝ }
+{
+    ((q == 0) & (v < out)) | ((q == 1) & (w < f as u64))
+}

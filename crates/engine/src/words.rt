@@ -1,0 +1,75 @@
+// The words of a configuration: where a cell and a sent word stand, what they show, and the changes that a step makes.
+ghost use mathlib.Core.Path.{_≡_};
+ghost use Prim.Native.Nat.{_+_, _≤_};
+ghost use lib.ListN.{length, set};
+ghost use Rattle.paper.specs.Words.{cellAt, sentAt};
+ghost use Rattle.paper.specs.Words as words;
+ghost use Rattle.paper.specs.Form as forms;
+ghost use Rattle.engine.specs.Design.{roomOf};
+ghost use Rattle.engine.specs.Words.{columnIn, countIn, transitIn};
+ghost use Rattle.engine.specs.Facts.{Bounded, Holds, At, Source};
+use crate::Sizes;
+use crate::form;
+
+// How many words a configuration has.
+pub fn room(s: Sizes) -> usize
+    requires { ⌜ Bounded s ⌝ }
+    ensures { λ r. ⌜ (r ≡ roomOf s) × (r ≤ 580) ⌝ }
+{
+    sent(s, 0) + s.types
+}
+
+// Where the sent word of type m stands.
+fn sent(s: Sizes, m: usize) -> usize
+    requires { ⌜ (Bounded s) × (m ≤ s .types) ⌝ }
+    ensures { λ r. ⌜ (r ≡ sentAt (s .correct) (s .types) (forms.wide (s .form)) m) × (r ≤ 576 + m) ⌝ }
+{
+    s.correct + s.correct * s.types * form::wide(s.form) + m
+}
+
+// Where the cell of board p for type m begins.
+fn cell(s: Sizes, p: usize, m: usize) -> usize
+    requires { ⌜ (Bounded s) × (At s p m) ⌝ }
+    ensures { λ r. ⌜ (r ≡ cellAt (s .correct) (s .types) (forms.wide (s .form)) p m 0) × (r + forms.wide (s .form) ≤ roomOf s) × (r ≤ 576) ⌝ }
+{
+    s.correct + (p * s.types + m) * form::wide(s.form)
+}
+
+// How many messages of type m board p has received.
+pub fn count(s: Sizes, w: &[u64], p: usize, m: usize) -> u64
+    requires { ⌜ (Bounded s) × (At s p m) × (Holds s 1000000 (now w)) ⌝ }
+    ensures { λ r. ⌜ (r ≡ countIn s (now (w .entry)) p m) × (r ≤ 2000000) ⌝ }
+{
+    let i = cell(s, p, m);
+    let j = i + form::slot(s.form, 1);
+    form::card(s.form, s.correct, s.faulty, w[i], w[j])
+}
+
+// Is the message of type m from q in transit to board p?
+pub fn in_transit(s: Sizes, w: &[u64], p: usize, m: usize, q: usize) -> bool
+    requires { ⌜ (Bounded s) × (At s p m) × (Source s q) × (length (now w) ≡ roomOf s) ⌝ }
+    ensures { λ r. ⌜ r ≡ transitIn s (now (w .entry)) p m q ⌝ }
+{
+    let i = cell(s, p, m);
+    let j = i + form::slot(s.form, 1);
+    let k = sent(s, m);
+    form::in_transit(s.form, s.correct, s.faulty, q, w[i], w[j], w[k])
+}
+
+// Board p receives it.
+pub fn hear(s: Sizes, w: &mut [u64], p: usize, m: usize, q: usize)
+    requires { ⌜ (Bounded s) × (At s p m) × (Source s q) × (Holds s 1000000 (now w)) ⌝ }
+    ensures { λ r. ⌜ now (w .exit) ≡ words.hear (s .correct) (s .types) (forms.wide (s .form)) p m (forms.slot (s .form) q) (forms.bump (s .form) q) (now (w .entry)) ⌝ }
+{
+    let i = cell(s, p, m) + form::slot(s.form, q);
+    w[i] = form::bump(s.form, q, w[i]);
+}
+
+// Board p sends type m.
+pub fn tell(s: Sizes, w: &mut [u64], p: usize, m: usize)
+    requires { ⌜ (Bounded s) × (At s p m) × (Holds s 1000000 (now w)) ⌝ }
+    ensures { λ r. ⌜ now (w .exit) ≡ set (now (w .entry)) (sentAt (s .correct) (s .types) (forms.wide (s .form)) m) (forms.bump (s .form) (columnIn s .own p) (words.sent (s .correct) (s .types) (forms.wide (s .form)) (now (w .entry)) m)) ⌝ }
+{
+    let i = sent(s, m);
+    w[i] = form::bump(s.form, p, w[i]);
+}

@@ -1,0 +1,4 @@
+pub mod WordLaws
+pub mod FormLaws
+pub mod StepLaws
+pub mod RunLaws

@@ -1,0 +1,5 @@
+pub mod Paper
+pub mod Words
+pub mod Form
+pub mod Step
+pub mod Run

@@ -1,0 +1,146 @@
+-- Section 3 of the paper (document 003): designs, the signature of Table 1 with a column for each form, and the transition
+-- relation of Definition 3.2. Where the outline differs from the paper, its word is cited.
+use mathlib.Core.Path.{_≡_}
+use mathlib.Core.Logic.{_≢_}
+use mathlib.Core.Bool.{Bool, true, false, not, _&&_, _||_}
+use Prim.Native.Nat.{ℕ, zero, suc, _+_, _<_}
+use lib.Dec.{eqb}
+use Rattle.senders.specs.Tally.{count}
+use Rattle.senders.specs.Set.{mem, insert, missing}
+use Rattle.fault.specs.Tests.{_below_, _atLeast_}
+
+-- ---- a design: what a table with n, t, f comes to. n is boards + faulty; boards count from 0, the correct ones first (outline)
+pub record Design : Type 0 where
+  -- the correct processes, Corr
+  pub boards : ℕ
+  -- how many processes are faulty, Byz
+  pub faulty : ℕ
+  -- the message types, MT
+  pub types : ℕ
+  pub rules : ℕ
+  -- the initial control states
+  pub initial : ℕ → Bool
+  -- is_sent: a state has sent a type
+  pub hasSent : ℕ → ℕ → Bool
+  -- the ends of a rule
+  pub from : ℕ → ℕ
+  pub to : ℕ → ℕ
+  -- a rule's threshold for a type is at most the count
+  pub met : ℕ → ℕ → ℕ → Bool
+
+-- the process relation: rule r leads from state ℓ to ℓ′ at the counts c, each of which meets its threshold
+pub record Leads (d : Design) (r ℓ : ℕ) (c : ℕ → ℕ) (ℓ′ : ℕ) : Type 0 where
+  pub rule : r < d .rules
+  pub leaves : ℓ ≡ d .from r
+  pub enters : ℓ′ ≡ d .to r
+  pub met : (m : ℕ) → m < d .types → d .met r m (c m) ≡ true
+
+-- going from ℓ to ℓ′ sends the type m
+abbrev pub newly : Design → ℕ → ℕ → ℕ → Bool
+newly d ℓ ℓ′ m = d .hasSent ℓ′ m && not (d .hasSent ℓ m)
+
+-- ---- Table 1, for the messages of one type: a message is its source
+pub record Interp : Type 1 where
+  -- collections of messages, MsgSets
+  pub Coll : Type 0
+  -- the messages, Msg: 0 .. sources-1
+  pub sources : ℕ
+  -- the message that a board sends
+  pub own : ℕ → ℕ
+  pub init : Coll
+  pub card : Coll → ℕ
+  pub add : ℕ → Coll → Coll
+  pub inTransit : ℕ → Coll → Coll → Bool
+
+-- the column MP, for C correct and f faulty processes: a set of senders
+abbrev pub passing : ℕ → ℕ → Interp
+passing C f = record {
+  Coll = ℕ;
+  sources = C + f;
+  own = λ p. p;
+  init = 0;
+  card = λ M. count (C + f) (mem M);
+  add = λ q M. insert q M;
+  inTransit = λ q M M′. q below C && missing M′ M q || q atLeast C && not (mem M q);
+}
+
+-- the column MC: two counts. Source 0 is the tag C, source 1 the tag F. Adding keeps the other types' counts, c(m′), since a
+-- collection is of one type; a faulty message is tested by the received count and not by the sent one (outline)
+pub record Counts : Type 0 where
+  pub correct : ℕ
+  pub faulty : ℕ
+
+abbrev pub addTag : ℕ → Counts → Counts
+addTag zero c = record { correct = suc (c .correct); faulty = c .faulty }
+addTag (suc i) c = record { correct = c .correct; faulty = suc (c .faulty) }
+
+abbrev pub counting : ℕ → ℕ → Interp
+counting C f = record {
+  Coll = Counts;
+  sources = 2;
+  own = λ p. 0;
+  init = record { correct = 0; faulty = 0 };
+  card = λ c. c .correct + c .faulty;
+  add = addTag;
+  inTransit = λ tag c c′. eqb tag 0 && c .correct below c′ .correct || eqb tag 1 && c .faulty below f;
+}
+
+-- the form's number picks the column: 0 message, 1 counting
+abbrev pub column : ℕ → ℕ → ℕ → Interp
+column zero C f = passing C f
+column (suc k) C f = counting C f
+
+-- ---- configurations: control states, received messages by board and type, sent messages by type
+pub record Conf (A : Type 0) : Type 0 where
+  pub pc : ℕ → ℕ
+  pub rcvd : ℕ → ℕ → A
+  pub sent : ℕ → A
+
+-- two configurations are the same, for all boards and types that there are
+pub record Same (d : Design) (I : Interp) (σ σ′ : Conf (I .Coll)) : Type 0 where
+  pub pc : (p : ℕ) → p < d .boards → σ .pc p ≡ σ′ .pc p
+  pub rcvd : (p m : ℕ) → p < d .boards → m < d .types → σ .rcvd p m ≡ σ′ .rcvd p m
+  pub sent : (m : ℕ) → m < d .types → σ .sent m ≡ σ′ .sent m
+
+-- every board in an initial state, nothing received, nothing sent
+pub record Initial (d : Design) (I : Interp) (σ : Conf (I .Coll)) : Type 0 where
+  pub pc : (p : ℕ) → p < d .boards → d .initial (σ .pc p) ≡ true
+  pub rcvd : (p m : ℕ) → p < d .boards → m < d .types → σ .rcvd p m ≡ I .init
+  pub sent : (m : ℕ) → m < d .types → σ .sent m ≡ I .init
+
+-- ---- a step, as a schedule names it (outline, "Bundle layout"); type and source 255 are no message
+pub record Step : Type 0 where
+  pub board : ℕ
+  pub rule : ℕ
+  pub type : ℕ
+  pub source : ℕ
+
+abbrev pub silent : Step → Bool
+silent s = eqb (s .type) 255 && eqb (s .source) 255
+
+-- 2a of Definition 3.2, where the step names a message: it is in transit in σ, and received in σ′
+pub record Hears (d : Design) (I : Interp) (s : Step) (σ σ′ : Conf (I .Coll)) : Type 0 where
+  pub type : s .type < d .types
+  pub source : s .source < I .sources
+  pub transit : I .inTransit (s .source) (σ .rcvd (s .board) (s .type)) (σ .sent (s .type)) ≡ true
+  pub added : σ′ .rcvd (s .board) (s .type) ≡ I .add (s .source) (σ .rcvd (s .board) (s .type))
+  pub others : (m : ℕ) → m < d .types → m ≢ s .type → σ′ .rcvd (s .board) m ≡ σ .rcvd (s .board) m
+
+-- Definition 3.2, for the step s
+pub record Moves (d : Design) (I : Interp) (s : Step) (σ σ′ : Conf (I .Coll)) : Type 0 where
+  pub board : s .board < d .boards
+  -- 1: a local transition, at the counts after the receipt
+  pub local : Leads d (s .rule) (σ .pc (s .board)) (λ m. I .card (σ′ .rcvd (s .board) m)) (σ′ .pc (s .board))
+  -- 2a: no message, or the one that is named
+  pub hears-nothing : silent s ≡ true → (m : ℕ) → m < d .types → σ′ .rcvd (s .board) m ≡ σ .rcvd (s .board) m
+  pub hears : silent s ≡ false → Hears d I s σ σ′
+  -- 2b: sent grows by the board's message of each type that is new, and by nothing else
+  pub sends : (m : ℕ) → m < d .types → newly d (σ .pc (s .board)) (σ′ .pc (s .board)) m ≡ true → σ′ .sent m ≡ I .add (I .own (s .board)) (σ .sent m)
+  pub keeps : (m : ℕ) → m < d .types → newly d (σ .pc (s .board)) (σ′ .pc (s .board)) m ≡ false → σ′ .sent m ≡ σ .sent m
+  -- 3: the other boards do not change
+  pub others-pc : (q : ℕ) → q < d .boards → q ≢ s .board → σ′ .pc q ≡ σ .pc q
+  pub others-rcvd : (q m : ℕ) → q < d .boards → m < d .types → q ≢ s .board → σ′ .rcvd q m ≡ σ .rcvd q m
+
+-- the paper's relation R between two configurations: some step leads from one to the other
+abbrev pub R : (d : Design) (I : Interp) → Conf (I .Coll) → Conf (I .Coll) → Type 0
+R d I σ σ′ = (s : Step) × Moves d I s σ σ′
