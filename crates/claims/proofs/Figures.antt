@@ -1,17 +1,52 @@
 -- Each figure is computed from the definitions.
 use mathlib.Core.Path.{refl}
-use Rattle.senders.specs.Tally.{count, some}
-use Rattle.senders.specs.Set.{mem}
+use Rattle.senders.specs.Tally.{count, some, every}
+use Rattle.senders.specs.Set.{mem, insert}
 use Rattle.threshold.specs.Threshold.{signedByte, thresholdOf}
 use Rattle.fault.specs.Fault.{_if_else_, _▹_, firstFault}
 use Rattle.table.specs.Table.{ruleAt}
 use Rattle.table.specs.Refusals.{tooShort, countsOff, distancesOff, stateOff, noInitial, noState, forgets, sendsTwo, stateFault, ruleFault, recordsFault, tableFault}
-use Rattle.bundle.specs.Bundle.{frontLength, tableInUse, startsOf}
+use Rattle.bundle.specs.Bundle.{frontLength, tableInUse, startsOf, stepsOf}
 use Rattle.bundle.specs.Refusals.{noTrailer, outOfBundle, notAdmitted, stepsOff, notInitial, startFault, scheduleFault, faultWith}
+use Rattle.paper.specs.Words.{size, cellAt, sentAt, state, cell, sent, hear, tell, start}
+use Rattle.paper.specs.Form.{wide, slot, bump, coll, shown}
+use Rattle.paper.specs.Step.{heard, stepped, malformed, notInTransit, notMet, stepFault}
+use Rattle.paper.specs.Run.{stepsIn, run}
+use Rattle.engine.specs.Design.{metAt}
+use Rattle.engine.specs.Entry.{ranWith, ranAnswer, runAnswer, runWords}
 use Rattle.claims.specs.Figures.{Every, cases}
 
 pub figures : Every cases
 unfolding
-    count some mem signedByte thresholdOf _if_else_ _▹_ firstFault ruleAt tooShort countsOff distancesOff stateOff noInitial noState forgets sendsTwo stateFault
-    ruleFault recordsFault tableFault frontLength tableInUse startsOf noTrailer outOfBundle notAdmitted stepsOff notInitial startFault scheduleFault faultWith
-figures = (refl, (refl, (refl, (refl, (refl, (refl, (refl, (refl, (refl, (refl, (refl, tt)))))))))))
+    count some every mem insert signedByte thresholdOf _if_else_ _▹_ firstFault ruleAt tooShort countsOff distancesOff stateOff noInitial noState forgets sendsTwo
+    stateFault ruleFault recordsFault tableFault frontLength tableInUse startsOf stepsOf noTrailer outOfBundle notAdmitted stepsOff notInitial startFault scheduleFault
+    faultWith size cellAt sentAt state cell sent hear tell start wide slot bump coll shown heard stepped malformed notInTransit notMet stepFault stepsIn run metAt ranWith
+    ranAnswer runAnswer runWords
+figures = (
+  refl,
+  (
+    refl,
+    (
+      refl,
+      (
+        refl,
+        (
+          refl,
+          (
+            refl,
+            (
+              (refl, refl),
+              (
+                (refl, refl),
+                (
+                  (refl, refl),
+                  (refl, (refl, (refl, (refl, (refl, ((refl, refl), ((refl, refl), ((refl, refl), ((refl, refl), tt))))))))),
+                ),
+              ),
+            ),
+          ),
+        ),
+      ),
+    ),
+  ),
+)

@@ -2,14 +2,15 @@
 use mathlib.Core.Path.{_≡_}
 use mathlib.Core.List.{List, [], _∷_, _++_}
 use Prim.Native.Nat.{ℕ, _+_}
-use lib.ListN.{length}
+use lib.ListN.{length, replicate}
 use lib.IntN.{ℤ, pos, negsuc}
 use Rattle.threshold.specs.Threshold.{thresholdOf}
-use Rattle.fault.specs.Bytes.{byteAt}
 use Rattle.fault.specs.Fault.{verdict}
 use Rattle.table.specs.Table.{coefficientsAt}
 use Rattle.bundle.specs.Refusals.{readFault}
-use Rattle.claims.specs.Echo.{echo, W}
+use Rattle.engine.specs.Design.{thresholdAt}
+use Rattle.engine.specs.Entry.{runAnswer, runWords}
+use Rattle.claims.specs.Echo.{echo, fiveSteps, W, WCounting}
 
 pub data Case : Type 0 where
   -- coefficients a, b, d at n and t come to the threshold z
@@ -18,20 +19,23 @@ pub data Case : Type 0 where
   asks : List ℕ → ℕ → ℕ → ℕ → ℕ → ℤ → Case
   -- a bundle beside a standing table is read with this refusal and place
   reads : List ℕ → List ℕ → ℕ → ℕ → Case
+  -- a run of a bundle beside a standing table answers refusal, place and steps, and leaves these words in as many lent ones
+  runs : List ℕ → List ℕ → ℕ → ℕ → ℕ → List ℕ → Case
 
 abbrev pub Holds : Case → Type 0
 Holds (comesTo a b d n t z) = thresholdOf a b d n t ≡ z
-Holds (asks table r m n t z) =
-    let at = coefficientsAt table r m in thresholdOf (byteAt table at) (byteAt table (at + 1)) (byteAt table (at + 2)) n t ≡ z
+Holds (asks table r m n t z) = thresholdAt table (coefficientsAt table r m) n t ≡ z
 Holds (reads b standing k p) = readFault b standing ≡ verdict k p
+Holds (runs b standing k p i words) =
+    (runAnswer b standing (length words) ≡ record { refusal = k; place = p; count = i }) × (runWords b standing (replicate (length words) 9) ≡ words)
 
 abbrev pub Every : List Case → Type 0
 Every [] = Unit {0}
 Every (c ∷ cs) = Holds c × Every cs
 
--- a schedule part without steps: the start bytes and the trailer
-abbrev idle : List ℕ → ℕ → ℕ → ℕ → List ℕ
-idle starts n t f = starts ++ (0 ∷ 0 ∷ length starts ∷ 0 ∷ n ∷ t ∷ f ∷ 0 ∷ [])
+-- a schedule part in message form: start bytes, step bytes and the trailer
+abbrev schedule : List ℕ → List ℕ → ℕ → ℕ → ℕ → List ℕ
+schedule starts steps n t f = starts ++ (steps ++ (length steps ∷ 0 ∷ (length steps + length starts) ∷ 0 ∷ n ∷ t ∷ f ∷ 0 ∷ []))
 
 abbrev pub cases : List Case
 cases =
@@ -43,10 +47,21 @@ cases =
     -- P2: the ends, -16,384 and 16,256
     comesTo 0x80 0x80 0x80 64 63 (negsuc 16383) ∷
     comesTo 0x7F 0x7F 0x7F 64 63 (pos 16256) ∷
+    -- P3, P4: W, and W in counting form
+    runs W echo 0 0 5 (2 ∷ 2 ∷ 3 ∷ 0 ∷ 0 ∷ 11 ∷ 7 ∷ []) ∷
+    runs WCounting echo 0 0 5 (2 ∷ 2 ∷ 3 ∷ 0 ∷ 0 ∷ 0 ∷ 0 ∷ 2 ∷ 1 ∷ 3 ∷ []) ∷
+    -- P5: W with last source 0, whose echo board 2 has heard
+    runs (fiveSteps 0 3 0 0) echo 24 4 4 (2 ∷ 2 ∷ 2 ∷ 0 ∷ 0 ∷ 9 ∷ 7 ∷ []) ∷
     -- P8: admitted n, t, f at k = 3
-    reads (idle (0 ∷ 0 ∷ 0 ∷ []) 3 1 0) echo 12 0 ∷
-    reads (idle (0 ∷ 0 ∷ []) 4 1 2) echo 12 0 ∷
-    reads (idle (0 ∷ []) 1 0 0) echo 0 0 ∷
+    reads (schedule (0 ∷ 0 ∷ 0 ∷ []) [] 3 1 0) echo 12 0 ∷
+    reads (schedule (0 ∷ 0 ∷ []) [] 4 1 2) echo 12 0 ∷
+    reads (schedule (0 ∷ []) [] 1 0 0) echo 0 0 ∷
     -- W with the echo table in front, and beside it
     reads (echo ++ W) [] 0 0 ∷
-    reads W echo 0 0 ∷ []
+    reads W echo 0 0 ∷
+    -- P9: one faulty echo does not make two; nobody has sent
+    runs (schedule (0 ∷ 0 ∷ 0 ∷ []) (0 ∷ 1 ∷ 0 ∷ 3 ∷ []) 4 1 1) echo 25 0 0 (0 ∷ 0 ∷ 0 ∷ 0 ∷ 0 ∷ 0 ∷ 0 ∷ []) ∷
+    runs (schedule (0 ∷ 0 ∷ 0 ∷ []) (0 ∷ 0 ∷ 0 ∷ 1 ∷ []) 4 1 1) echo 24 0 0 (0 ∷ 0 ∷ 0 ∷ 0 ∷ 0 ∷ 0 ∷ 0 ∷ []) ∷
+    -- P10: a board can't hear its echo in the step that sends it; it can in the next
+    runs (schedule (1 ∷ []) (0 ∷ 3 ∷ 0 ∷ 0 ∷ []) 1 0 0) echo 24 0 0 (1 ∷ 0 ∷ 0 ∷ []) ∷
+    runs (schedule (1 ∷ []) (0 ∷ 3 ∷ 255 ∷ 255 ∷ 0 ∷ 5 ∷ 0 ∷ 0 ∷ []) 1 0 0) echo 0 0 2 (3 ∷ 1 ∷ 1 ∷ []) ∷ []

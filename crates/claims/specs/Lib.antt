@@ -1,2 +1,3 @@
 pub mod Echo
 pub mod Figures
+pub mod Demand2

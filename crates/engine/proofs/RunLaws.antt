@@ -13,9 +13,9 @@ use Rattle.paper.specs.Paper.{Design}
 use Rattle.paper.specs.Words.{start}
 use Rattle.paper.specs.Form.{wide}
 use Rattle.paper.specs.Step.{stepFault, stepped}
-use Rattle.paper.specs.Run.{stepsIn, Ran, run}
+use Rattle.paper.specs.Run.{stepsIn, Ran, run, noStep}
 use Rattle.paper.proofs.WordLaws.{start-low, start-high, length-start}
-use Rattle.paper.proofs.RunLaws.{noStep, length-steps, step-at, Running, ranTo, running-starts, running-goes, running-stops, running-ends}
+use Rattle.paper.proofs.RunLaws.{length-steps, step-at, Running, ranTo, running-starts, running-goes, running-stops, running-ends}
 use Rattle.engine.specs.declared.Sizes.{Sizes}
 use Rattle.engine.specs.declared.Answer.{Answer}
 use Rattle.engine.specs.Design.{designOf, recordAt, roomOf}

@@ -11,12 +11,9 @@ use borrow.Author.Tests.{eq-eqb, ne-eqb}
 use Rattle.fault.specs.Fault.{_if_else_}
 use Rattle.paper.specs.Paper.{Design, Step}
 use Rattle.paper.specs.Step.{stepFault, stepped}
-use Rattle.paper.specs.Run.{stepsIn, Ran, oneMore, run}
+use Rattle.paper.specs.Run.{stepsIn, Ran, oneMore, run, noStep}
 
 -- ---- the steps that bytes hold
-abbrev pub noStep : Step
-noStep = record { board = 0; rule = 0; type = 0; source = 0 }
-
 pub length-steps : (n : ℕ) (bs : List ℕ) → length bs ≡ n * 4 → length (stepsIn bs) ≡ n
 unfolding stepsIn
 length-steps zero [] h = refl

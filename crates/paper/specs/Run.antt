@@ -2,7 +2,7 @@
 use mathlib.Core.List.{List, [], _∷_}
 use Prim.Native.Nat.{ℕ, suc}
 use lib.Dec.{eqb}
-use lib.ListN.{take}
+use lib.ListN.{getD, take}
 use Rattle.fault.specs.Fault.{_if_else_}
 use Rattle.paper.specs.Paper.{Design, Step}
 use Rattle.paper.specs.Step.{stepFault, stepped}
@@ -29,6 +29,14 @@ run k d w [] = record { accepted = 0; refusal = 0; words = w }
 run k d w (s ∷ ss) =
     oneMore (run k d (stepped k d w s) ss) if eqb (stepFault k d w s) 0 else
     record { accepted = 0; refusal = stepFault k d w s; words = w }
+
+-- what stands past a schedule's end; no statement rests on it
+abbrev pub noStep : Step
+noStep = record { board = 0; rule = 0; type = 0; source = 0 }
+
+-- step i of a schedule
+abbrev pub stepAt : List Step → ℕ → Step
+stepAt ss i = getD ss i noStep
 
 -- the words after the first i steps
 abbrev pub after : ℕ → Design → List ℕ → List Step → ℕ → List ℕ
