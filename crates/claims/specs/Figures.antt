@@ -10,7 +10,7 @@ use Rattle.table.specs.Table.{coefficientsAt}
 use Rattle.bundle.specs.Refusals.{readFault}
 use Rattle.engine.specs.Design.{thresholdAt}
 use Rattle.engine.specs.Entry.{runAnswer, runWords}
-use Rattle.claims.specs.Echo.{echo, fiveSteps, W, WCounting}
+use Rattle.echo.specs.Echo.{echo, fiveSteps, W, WCounting}
 
 pub data Case : Type 0 where
   -- coefficients a, b, d at n and t come to the threshold z

@@ -1,3 +1,2 @@
-pub mod Echo
 pub mod Figures
 pub mod Demand2

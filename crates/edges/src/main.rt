@@ -32,6 +32,10 @@ fn main() {
     states();
     rules();
     starts();
+    lent(0);
+    lent(6);
+    lent(7);
+    lent(9);
 }
 
 // Counts and k at 0, 1, the limit and one more; then all limits at once.
@@ -137,6 +141,36 @@ fn starts() {
     changed(1, 29, 3, 0, 0, 0, 0);
     changed(1, 30, 4, 0, 0, 0, 0);
     changed(1, 30, 255, 0, 0, 0, 0);
+}
+
+// W in a lent part of nine words, of which it needs seven: the answer, then all nine.
+fn lent(n: usize) {
+    let bundle = echo::schedule();
+    let standing = echo::table();
+    let mut words = [9u64; 9];
+    io::write_all(1, b"lent");
+    print_next(n);
+    run_lent(&bundle, &standing, &mut words, n);
+}
+
+fn run_lent<'a>(bundle: &'a [u8], standing: &'a [u8], words: &mut [u64], n: usize) {
+    if words.len() < n {
+        return;
+    }
+    let a = engine::run(bundle, standing, &mut words[..n]);
+    io::write_all(1, b":");
+    print_next(a.refusal as usize);
+    print_next(a.place as usize);
+    print_next(a.count as usize);
+    print_words(words);
+    io::write_all(1, b"\n");
+}
+
+fn print_words(words: &[u64]) {
+    let n = words.len();
+    for i in 0..n {
+        print_next(words[i] as usize);
+    }
 }
 
 // ---- the three kinds of bundle

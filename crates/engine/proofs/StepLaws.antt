@@ -6,11 +6,13 @@ use Prim.Native.Nat.{ℕ, _+_, _*_, _≤_, _<_}
 use native.Mathlib.Omega.{arith}
 use lib.Dec.{eqb}
 use lib.ListN.{length, set}
-use borrow.Author.Tests.{leb-false, lt-leb, eqb-true, ne-eqb}
+use borrow.Author.Tests.{leb-false, lt-leb, eqb-true, eq-eqb, ne-eqb}
 use Rattle.senders.specs.Tally.{count, every, digit, least}
 use Rattle.senders.specs.Set.{missing}
 use Rattle.senders.proofs.TallyLaws.{and-both, every-same, least-first, least-found, count-only}
 use Rattle.fault.specs.Tests.{_atLeast_, _differs_}
+use Rattle.fault.specs.Fault.{_if_else_}
+use Rattle.fault.proofs.FaultLaws.{if-yes, if-no}
 use Rattle.fault.proofs.TestLaws.{or-none, same}
 use Rattle.table.specs.Table as tables
 use Rattle.table.specs.Table.{statesOf, rulesOf, fromOf, toOf, ruleAt}
@@ -117,3 +119,10 @@ module _ (s : Sizes) (tab w : List ℕ) (p r m q : ℕ) (S : Suits s tab) (l : l
   not-met-is = ap not (every-same (s .types) _ _ (λ i h.
       ap (metAt tab (ruleAt tab r + 2 + 3 * i) (s .correct + s .faulty) (s .t))
       (count-heard (s .form) (designOf s tab) w (stepOf p r m q) l A i h ∙ ap (λ (x : ℕ). countIn s w p i + x) (silent-type i h))))
+
+-- ---- `step`, from what it has in hand
+pub step-left : {x y : ℕ} (u w : List ℕ) → x ≡ y → (x ≡ 0 → ⊥) → w ≡ (u if eqb y 0 else w)
+step-left u w e n = if-no u refl (ne-eqb _ 0 (λ z. n (e ∙ z))) refl
+
+pub step-done : {x y : ℕ} {v u : List ℕ} (w : List ℕ) → x ≡ y → x ≡ 0 → v ≡ u → v ≡ (u if eqb y 0 else w)
+step-done w e z h = if-yes w h refl (eq-eqb _ 0 (sym e ∙ z))

@@ -2,8 +2,6 @@
 // bundle"). Its standing table is the echo table.
 ghost use Prim.Native.Nat.{_+_, _≤_, _<_};
 
-mod echo;
-
 // A table of 16 states and 64 rules of 14 bytes, 64 starts, 4,096 steps and two trailers.
 const LARGEST: usize = 17392;
 
@@ -18,7 +16,7 @@ fn report(bundle: &[u8]) {
         print_result(40, 0, 0);
         return;
     }
-    let standing = echo::TABLE;
+    let standing = echo::table();
     let mut words = [0u64; 580];
     report_run(bundle, &standing, &mut words);
 }

@@ -25,6 +25,10 @@ begin-spec =
     (λ c. omega (arith, c .before .before .loop .inv .1, c .before .loop-test .taken))
     (λ c. search needs)
     (λ c. search needs)
-    (λ c. (omega arith, length-set (c .before .before .loop .w) (c .before .before .loop .i) (c .start-word .result) ∙ c .before .before .loop .inv .1, fills (c .before .before .loop .w) (c .before .before .before .before .before .args .starts .now) (c .before .before .loop .i) (c .start-word .result) (omega (arith, c .before .before .loop .inv .1, c .before .loop-test .taken)) (c .before .before .loop .inv .2) (c .start-word .ensures)))
+    (λ c. let st = c .before .before .before .before .before in
+    let a = st .args in
+    (omega arith, length-set (c .before .before .loop .w) (c .before .before .loop .i) (c .start-word .result) ∙ c .before .before .loop .inv .1, fills (c .before .before .loop .w) (a .starts .now) (c .before .before .loop .i) (c .start-word .result) (omega (arith, c .before .before .loop .inv .1, c .before .loop-test .taken)) (c .before .before .loop .inv .2) (c .start-word .ensures)))
     (λ c. c .before .loop .inv .1)
-    (λ c. filled (c .before .before .before .before .args .s) (c .before .before .before .before .args .starts .now) (c .before .before .before .before .pre .0) (c .before .loop .w) (c .before .loop .inv .1 ∙ c .before .before .before .before .pre .1) (λ j h. c .before .loop .inv .2 j (omega (arith, c .before .loop .inv .1, c .loop-test .left)))))
+    (λ c. let st = c .before .before .before .before in
+    let a = st .args in
+    filled (a .s) (a .starts .now) (st .pre .0) (c .before .loop .w) (c .before .loop .inv .1 ∙ st .pre .1) (λ j h. c .before .loop .inv .2 j (omega (arith, c .before .loop .inv .1, c .loop-test .left)))))

@@ -10,4 +10,5 @@ start-word-spec =
     (tie.spec
     (λ c κs. search needs)
     (λ c. search needs)
-    (λ c. sym (List·getD-eq-default (c .before .before .args .starts .now) 0 (c .if1 .left))))
+    (λ c. let a = c .before .before .args in
+    sym (List·getD-eq-default (a .starts .now) 0 (c .if1 .left))))

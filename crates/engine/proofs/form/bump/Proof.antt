@@ -13,6 +13,9 @@ bump-spec =
     tie.close
     (tie.spec
     (λ c κs. search needs)
-    (λ c. omega (arith, c .before .pre .1 (c .if1 .left)))
-    (λ c. sets (λ (k : ℕ). c .with .result ≡ bump k (c .before .before .args .q) (c .before .before .args .word)) (c .with .ensures) _ (c .before .if1 .taken))
-    (λ c. counts (λ (k : ℕ). c .before .args .word + 1 ≡ bump k (c .before .args .q) (c .before .args .word)) (λ j. omega arith) _ (c .if1 .left)))
+    (λ c. let st = c .before in
+    omega (arith, st .pre .1 (c .if1 .left)))
+    (λ c. let a = c .before .before .args in
+    sets (λ (k : ℕ). c .with .result ≡ bump k (a .q) (a .word)) (c .with .ensures) _ (c .before .if1 .taken))
+    (λ c. let a = c .before .args in
+    counts (λ (k : ℕ). a .word + 1 ≡ bump k (a .q) (a .word)) (λ j. omega arith) _ (c .if1 .left)))

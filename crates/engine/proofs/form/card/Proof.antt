@@ -15,6 +15,10 @@ card-spec =
     (tie.spec
     (λ c. search needs)
     (λ c κs. search needs)
-    (λ c. omega (arith, c .before .pre .1 (c .if1 .left)))
-    (λ c. sets (λ (k : ℕ). (c .correct-count .result ≡ column k (c .before .before .args .c) (c .before .before .args .f) .card (coll k (c .before .before .args .c) (c .before .before .args .f) (two (c .before .before .args .v) (c .before .before .args .w)))) × (c .correct-count .result ≤ 2000000)) (c .correct-count .ensures .0, omega arith) _ (c .before .if1 .taken))
-    (λ c. counts (λ (k : ℕ). (c .before .args .v + c .before .args .w ≡ column k (c .before .args .c) (c .before .args .f) .card (coll k (c .before .args .c) (c .before .args .f) (two (c .before .args .v) (c .before .args .w)))) × (c .before .args .v + c .before .args .w ≤ 2000000)) (λ j. (refl, omega (arith, c .before .pre .1 (c .if1 .left)))) _ (c .if1 .left)))
+    (λ c. let st = c .before in
+    omega (arith, st .pre .1 (c .if1 .left)))
+    (λ c. let a = c .before .before .args in
+    sets (λ (k : ℕ). (c .correct-count .result ≡ column k (a .c) (a .f) .card (coll k (a .c) (a .f) (two (a .v) (a .w)))) × (c .correct-count .result ≤ 2000000)) (c .correct-count .ensures .0, omega arith) _ (c .before .if1 .taken))
+    (λ c. let st = c .before in
+    let a = st .args in
+    counts (λ (k : ℕ). (a .v + a .w ≡ column k (a .c) (a .f) .card (coll k (a .c) (a .f) (two (a .v) (a .w)))) × (a .v + a .w ≤ 2000000)) (λ j. (refl, omega (arith, st .pre .1 (c .if1 .left)))) _ (c .if1 .left)))

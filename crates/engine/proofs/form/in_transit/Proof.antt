@@ -14,5 +14,7 @@ in-transit-spec =
     (tie.spec
     (λ c κs. search needs)
     (λ c κs. search needs)
-    (λ c. sets (λ (k : ℕ). c .set-in-transit .result ≡ column k (c .before .before .args .c) (c .before .before .args .f) .inTransit (c .before .before .args .q) (coll k (c .before .before .args .c) (c .before .before .args .f) (two (c .before .before .args .v) (c .before .before .args .w))) (shown k (c .before .before .args .c) (c .before .before .args .f) (c .before .before .args .out))) (c .set-in-transit .ensures) _ (c .before .if1 .taken))
-    (λ c. counts (λ (k : ℕ). c .count-in-transit .result ≡ column k (c .before .before .args .c) (c .before .before .args .f) .inTransit (c .before .before .args .q) (coll k (c .before .before .args .c) (c .before .before .args .f) (two (c .before .before .args .v) (c .before .before .args .w))) (shown k (c .before .before .args .c) (c .before .before .args .f) (c .before .before .args .out))) (λ j. c .count-in-transit .ensures) _ (c .before .if1 .left)))
+    (λ c. let a = c .before .before .args in
+    sets (λ (k : ℕ). c .set-in-transit .result ≡ column k (a .c) (a .f) .inTransit (a .q) (coll k (a .c) (a .f) (two (a .v) (a .w))) (shown k (a .c) (a .f) (a .out))) (c .set-in-transit .ensures) _ (c .before .if1 .taken))
+    (λ c. let a = c .before .before .args in
+    counts (λ (k : ℕ). c .count-in-transit .result ≡ column k (a .c) (a .f) .inTransit (a .q) (coll k (a .c) (a .f) (two (a .v) (a .w))) (shown k (a .c) (a .f) (a .out))) (λ j. c .count-in-transit .ensures) _ (c .before .if1 .left)))

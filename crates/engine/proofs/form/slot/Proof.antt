@@ -11,5 +11,7 @@ unfolding slot
 slot-spec =
     tie.close
     (tie.spec
-    (λ c. sets (λ (k : ℕ). (0 ≡ slot k (c .before .args .q)) × (0 ≤ c .before .args .q)) (refl, omega arith) _ (c .if1 .taken))
-    (λ c. counts (λ (k : ℕ). (c .before .args .q ≡ slot k (c .before .args .q)) × (c .before .args .q ≤ c .before .args .q)) (λ j. (refl, omega arith)) _ (c .if1 .left)))
+    (λ c. let a = c .before .args in
+    sets (λ (k : ℕ). (0 ≡ slot k (a .q)) × (0 ≤ a .q)) (refl, omega arith) _ (c .if1 .taken))
+    (λ c. let a = c .before .args in
+    counts (λ (k : ℕ). (a .q ≡ slot k (a .q)) × (a .q ≤ a .q)) (λ j. (refl, omega arith)) _ (c .if1 .left)))

@@ -12,5 +12,7 @@ sources-spec =
     tie.close
     (tie.spec
     (λ c. search needs)
-    (λ c. sets (λ (k : ℕ). (c .before .args .c + c .before .args .f ≡ column k (c .before .args .c) (c .before .args .f) .sources) × (c .before .args .c + c .before .args .f ≤ 64)) (refl, omega arith) _ (c .if1 .taken))
-    (λ c. counts (λ (k : ℕ). (2 ≡ column k (c .before .args .c) (c .before .args .f) .sources) × (2 ≤ 64)) (λ j. (refl, omega arith)) _ (c .if1 .left)))
+    (λ c. let a = c .before .args in
+    sets (λ (k : ℕ). (a .c + a .f ≡ column k (a .c) (a .f) .sources) × (a .c + a .f ≤ 64)) (refl, omega arith) _ (c .if1 .taken))
+    (λ c. let a = c .before .args in
+    counts (λ (k : ℕ). (2 ≡ column k (a .c) (a .f) .sources) × (2 ≤ 64)) (λ j. (refl, omega arith)) _ (c .if1 .left)))

@@ -17,11 +17,25 @@ unfolding heard stepped
 apply-step-spec =
     tie.close
     (tie.spec
-    (λ c κs. (c .before .before .pre .0 .formed .sized, granted (c .before .before .args .s) (c .before .before .args .table .now) (c .before .before .args .w .now) (c .before .before .args .p) (c .before .before .args .r) (c .before .before .args .m) (c .before .before .args .q) (c .before .before .pre .0) (c .before .before .pre .2) .rule))
-    (λ c κs. (c .before .before .before .pre .0 .formed .sized, granted (c .before .before .before .args .s) (c .before .before .before .args .table .now) (c .before .before .before .args .w .now) (c .before .before .before .args .p) (c .before .before .before .args .r) (c .before .before .before .args .m) (c .before .before .before .args .q) (c .before .before .before .pre .0) (c .before .before .before .pre .2) .rule))
-    (λ c κs. let G = granted (c .before .before .before .before .before .args .s) (c .before .before .before .before .before .args .table .now) (c .before .before .before .before .before .args .w .now) (c .before .before .before .before .before .args .p) (c .before .before .before .before .before .args .r) (c .before .before .before .before .before .args .m) (c .before .before .before .before .before .args .q) (c .before .before .before .before .before .pre .0) (c .before .before .before .before .before .pre .2) in (c .before .before .before .before .before .pre .0 .bounded, G .board, G .well-named, holds-more (c .before .before .before .before .before .args .s) 900000 1000000 (c .before .before .before .before .before .args .w .now) (omega arith) (c .before .before .before .before .before .pre .1)))
-    (λ c. omega (arith, granted (c .before .before .before .before .before .before .before .before .args .s) (c .before .before .before .before .before .before .before .before .args .table .now) (c .before .before .before .before .before .before .before .before .args .w .now) (c .before .before .before .before .before .before .before .before .args .p) (c .before .before .before .before .before .before .before .before .args .r) (c .before .before .before .before .before .before .before .before .args .m) (c .before .before .before .before .before .before .before .before .args .q) (c .before .before .before .before .before .before .before .before .pre .0) (c .before .before .before .before .before .before .before .before .pre .2) .board, c .before .before .before .before .before .before .before .before .pre .0 .bounded .boards))
-    (λ c. let H = subst⁻¹ (Holds (c .before .before .before .before .before .before .before .before .args .s) 900001) (c .before .before .receive .ensures) (holds-heard (c .before .before .before .before .before .before .before .before .args .s) (c .before .before .before .before .before .before .before .before .args .table .now) (c .before .before .before .before .before .before .before .before .args .w .now) (c .before .before .before .before .before .before .before .before .args .p) (c .before .before .before .before .before .before .before .before .args .r) (c .before .before .before .before .before .before .before .before .args .m) (c .before .before .before .before .before .before .before .before .args .q) 900000 (c .before .before .before .before .before .before .before .before .pre .1)) in omega (arith, H .fits, board-in-room (c .before .before .before .before .before .before .before .before .args .s) (c .before .before .before .before .before .before .before .before .args .p) (granted (c .before .before .before .before .before .before .before .before .args .s) (c .before .before .before .before .before .before .before .before .args .table .now) (c .before .before .before .before .before .before .before .before .args .w .now) (c .before .before .before .before .before .before .before .before .args .p) (c .before .before .before .before .before .before .before .before .args .r) (c .before .before .before .before .before .before .before .before .args .m) (c .before .before .before .before .before .before .before .before .args .q) (c .before .before .before .before .before .before .before .before .pre .0) (c .before .before .before .before .before .before .before .before .pre .2) .board)))
-    (λ c κs. let G = granted (c .before .before .before .before .before .before .before .before .before .args .s) (c .before .before .before .before .before .before .before .before .before .args .table .now) (c .before .before .before .before .before .before .before .before .before .args .w .now) (c .before .before .before .before .before .before .before .before .before .args .p) (c .before .before .before .before .before .before .before .before .before .args .r) (c .before .before .before .before .before .before .before .before .before .args .m) (c .before .before .before .before .before .before .before .before .before .args .q) (c .before .before .before .before .before .before .before .before .before .pre .0) (c .before .before .before .before .before .before .before .before .before .pre .2) in (c .before .before .before .before .before .before .before .before .before .pre .0, G .board, holds-more (c .before .before .before .before .before .before .before .before .before .args .s) 900001 1000000 (set (c .before .before .before .receive .last .1 .0) (c .before .before .before .before .before .before .before .before .before .args .p) (c .before .before .before .before .before .to .result)) (omega arith) (subst⁻¹ (λ (u : List ℕ). Holds (c .before .before .before .before .before .before .before .before .before .args .s) 900001 (set u (c .before .before .before .before .before .before .before .before .before .args .p) (c .before .before .before .before .before .to .result))) (c .before .before .before .receive .ensures) (holds-moved (c .before .before .before .before .before .before .before .before .before .args .s) (c .before .before .before .before .before .before .before .before .before .args .table .now) (c .before .before .before .before .before .before .before .before .before .args .w .now) (c .before .before .before .before .before .before .before .before .before .args .p) (c .before .before .before .before .before .before .before .before .before .args .r) (c .before .before .before .before .before .before .before .before .before .args .m) (c .before .before .before .before .before .before .before .before .before .args .q) 900000 (c .before .before .before .before .before .before .before .before .before .pre .1) (c .before .before .before .before .before .to .result) (omega (arith, c .before .before .before .before .before .to .ensures .1)))), rw (c .before .before .before .before .before .before .from .ensures .0) (G .from), rw (c .before .before .before .before .before .to .ensures .0) (G .to), rw (c .before .before .before .before .before .to .ensures .0, c .before .before .before .before .before .before .from .ensures .0) (G .one-new)))
-    (λ c. let e : c .before .before .send .last .1 .1 .0 ≡ stepped (c .before .before .before .before .before .before .before .before .before .before .before .before .args .s .form) (designOf (c .before .before .before .before .before .before .before .before .before .before .before .before .args .s) (c .before .before .before .before .before .before .before .before .before .before .before .before .args .table .now)) (c .before .before .before .before .before .before .before .before .before .before .before .before .args .w .now) (stepOf (c .before .before .before .before .before .before .before .before .before .before .before .before .args .p) (c .before .before .before .before .before .before .before .before .before .before .before .before .args .r) (c .before .before .before .before .before .before .before .before .before .before .before .before .args .m) (c .before .before .before .before .before .before .before .before .before .before .before .before .args .q)) = c .before .before .send .ensures ∙ rw (c .before .before .before .before .before .before .before .before .to .ensures .0, c .before .before .before .before .before .before .before .before .before .from .ensures .0, c .before .before .before .before .before .before .receive .ensures) in ap length e ∙ length-stepped (c .before .before .before .before .before .before .before .before .before .before .before .before .args .s .form) (designOf (c .before .before .before .before .before .before .before .before .before .before .before .before .args .s) (c .before .before .before .before .before .before .before .before .before .before .before .before .args .table .now)) (c .before .before .before .before .before .before .before .before .before .before .before .before .args .w .now) (stepOf (c .before .before .before .before .before .before .before .before .before .before .before .before .args .p) (c .before .before .before .before .before .before .before .before .before .before .before .before .args .r) (c .before .before .before .before .before .before .before .before .before .before .before .before .args .m) (c .before .before .before .before .before .before .before .before .before .before .before .before .args .q)))
+    (λ c κs. let st = c .before .before in
+    let a = st .args in
+    (st .pre .0 .formed .sized, granted (a .s) (a .table .now) (a .w .now) (a .p) (a .r) (a .m) (a .q) (st .pre .0) (st .pre .2) .rule))
+    (λ c κs. let st = c .before .before .before in
+    let a = st .args in
+    (st .pre .0 .formed .sized, granted (a .s) (a .table .now) (a .w .now) (a .p) (a .r) (a .m) (a .q) (st .pre .0) (st .pre .2) .rule))
+    (λ c κs. let st = c .before .before .before .before .before in
+    let a = st .args in
+    let G = granted (a .s) (a .table .now) (a .w .now) (a .p) (a .r) (a .m) (a .q) (st .pre .0) (st .pre .2) in (st .pre .0 .bounded, G .board, G .well-named, holds-more (a .s) 900000 1000000 (a .w .now) (omega arith) (st .pre .1)))
+    (λ c. let st = c .before .before .before .before .before .before .before .before in
+    let a = st .args in
+    omega (arith, granted (a .s) (a .table .now) (a .w .now) (a .p) (a .r) (a .m) (a .q) (st .pre .0) (st .pre .2) .board, st .pre .0 .bounded .boards))
+    (λ c. let st = c .before .before .before .before .before .before .before .before in
+    let a = st .args in
+    let H = subst⁻¹ (Holds (a .s) 900001) (c .before .before .receive .ensures) (holds-heard (a .s) (a .table .now) (a .w .now) (a .p) (a .r) (a .m) (a .q) 900000 (st .pre .1)) in omega (arith, H .fits, board-in-room (a .s) (a .p) (granted (a .s) (a .table .now) (a .w .now) (a .p) (a .r) (a .m) (a .q) (st .pre .0) (st .pre .2) .board)))
+    (λ c κs. let st = c .before .before .before .before .before .before .before .before .before in
+    let a = st .args in
+    let G = granted (a .s) (a .table .now) (a .w .now) (a .p) (a .r) (a .m) (a .q) (st .pre .0) (st .pre .2) in (st .pre .0, G .board, holds-more (a .s) 900001 1000000 (set (c .before .before .before .receive .last .1 .0) (a .p) (c .before .before .before .before .before .to .result)) (omega arith) (subst⁻¹ (λ (u : List ℕ). Holds (a .s) 900001 (set u (a .p) (c .before .before .before .before .before .to .result))) (c .before .before .before .receive .ensures) (holds-moved (a .s) (a .table .now) (a .w .now) (a .p) (a .r) (a .m) (a .q) 900000 (st .pre .1) (c .before .before .before .before .before .to .result) (omega (arith, c .before .before .before .before .before .to .ensures .1)))), rw (c .before .before .before .before .before .before .from .ensures .0) (G .from), rw (c .before .before .before .before .before .to .ensures .0) (G .to), rw (c .before .before .before .before .before .to .ensures .0, c .before .before .before .before .before .before .from .ensures .0) (G .one-new)))
+    (λ c. let st = c .before .before .before .before .before .before .before .before .before .before .before .before in
+    let a = st .args in
+    let e : c .before .before .send .last .1 .1 .0 ≡ stepped (a .s .form) (designOf (a .s) (a .table .now)) (a .w .now) (stepOf (a .p) (a .r) (a .m) (a .q)) = c .before .before .send .ensures ∙ rw (c .before .before .before .before .before .before .before .before .to .ensures .0, c .before .before .before .before .before .before .before .before .before .from .ensures .0, c .before .before .before .before .before .before .receive .ensures) in ap length e ∙ length-stepped (a .s .form) (designOf (a .s) (a .table .now)) (a .w .now) (stepOf (a .p) (a .r) (a .m) (a .q)))
     (λ c. c .before .before .send .ensures ∙ rw (c .before .before .before .before .before .before .before .before .to .ensures .0, c .before .before .before .before .before .before .before .before .before .from .ensures .0, c .before .before .before .before .before .before .receive .ensures)))

@@ -9,5 +9,7 @@ not-in-transit-spec =
     (tie.spec
     (λ c κs. search needs)
     (λ c. rw (← c .before .silent .ensures, c .if1 .taken))
-    (λ c κs. (c .before .before .before .pre .0, names-type (c .before .before .before .args .s) (c .before .before .before .args .p) (c .before .before .before .args .m) (c .before .before .before .args .q) (c .before .before .before .pre .2) (c .before .silent .ensures) (c .if1 .left) (c .before .before .before .pre .1), names-source (c .before .before .before .args .s) (c .before .before .before .args .p) (c .before .before .before .args .m) (c .before .before .before .args .q) (c .before .before .before .pre .2) (c .before .silent .ensures) (c .if1 .left), c .before .before .before .pre .3))
+    (λ c κs. let st = c .before .before .before in
+    let a = st .args in
+    (st .pre .0, names-type (a .s) (a .p) (a .m) (a .q) (st .pre .2) (c .before .silent .ensures) (c .if1 .left) (st .pre .1), names-source (a .s) (a .p) (a .m) (a .q) (st .pre .2) (c .before .silent .ensures) (c .if1 .left), st .pre .3))
     (λ c. rw (← c .before .before .silent .ensures, c .before .if1 .left, c .in-transit .ensures)))

@@ -24,14 +24,23 @@ not-met-spec =
     Inv-loop
     μ-loop
     (λ c. (omega arith, every-none _))
-    (λ c κs. (c .before .before .before .before .pre .0, record { board = c .before .before .before .before .pre .1; type = c .loop-test .taken }, c .before .before .before .before .pre .2))
+    (λ c κs. let st = c .before .before .before .before in
+    (st .pre .0, record { board = st .pre .1; type = c .loop-test .taken }, st .pre .2))
     (λ c κs. search needs)
     (λ c. omega (arith, c .before .count .ensures .1, c .gain .ensures .1))
-    (λ c. omega (arith, c .before .before .before .before .before .before .pre .0 .types))
-    (λ c. omega (arith, c .before .before .before .before .before .before .pre .3, c .before .before .before .before .before .before .good))
-    (λ c κs. (c .before .before .before .before .before .before .pre .0, omega (arith, c .before .before .before .before .before .before .pre .3, c .before .before .loop-test .taken), omega (arith, c .before .count .ensures .1, c .gain .ensures .1)))
-    (λ c. every-failed _ (c .before .unmet .ensures ∙ ap (λ (x : ℕ). not (metAt (c .before .before .before .before .before .before .before .before .args .table .now) (c .before .before .before .before .before .before .before .before .args .at + 3 * c .before .before .before .before .before .loop .i) (c .before .before .before .before .before .before .before .before .args .s .correct + c .before .before .before .before .before .before .before .before .args .s .faulty) (c .before .before .before .before .before .before .before .before .args .s .t) x)) (ap₂ _+_ (c .before .before .before .count .ensures .0) (c .before .before .gain .ensures .0))) (c .if1 .taken) (c .before .before .before .before .loop-test .taken))
-    (λ c. omega (arith, c .before .before .before .before .loop-test .taken, c .before .before .before .before .before .before .before .before .pre .0 .types))
+    (λ c. let st = c .before .before .before .before .before .before in
+    omega (arith, st .pre .0 .types))
+    (λ c. let st = c .before .before .before .before .before .before in
+    omega (arith, st .pre .3, st .good))
+    (λ c κs. let st = c .before .before .before .before .before .before in
+    (st .pre .0, omega (arith, st .pre .3, c .before .before .loop-test .taken), omega (arith, c .before .count .ensures .1, c .gain .ensures .1)))
+    (λ c. let st = c .before .before .before .before .before .before .before .before in
+    let a = st .args in
+    every-failed _ (c .before .unmet .ensures ∙ ap (λ (x : ℕ). not (metAt (a .table .now) (a .at + 3 * c .before .before .before .before .before .loop .i) (a .s .correct + a .s .faulty) (a .s .t) x)) (ap₂ _+_ (c .before .before .before .count .ensures .0) (c .before .before .gain .ensures .0))) (c .if1 .taken) (c .before .before .before .before .loop-test .taken))
+    (λ c. let st = c .before .before .before .before .before .before .before .before in
+    omega (arith, c .before .before .before .before .loop-test .taken, st .pre .0 .types))
     (λ c. omega (arith, c .before .before .before .before .loop-test .taken))
-    (λ c. (omega (arith, c .before .before .before .before .loop-test .taken), every-more _ (c .before .before .before .before .before .loop .i) (c .before .before .before .before .before .loop .inv .1) (c .before .unmet .ensures ∙ ap (λ (x : ℕ). not (metAt (c .before .before .before .before .before .before .before .before .args .table .now) (c .before .before .before .before .before .before .before .before .args .at + 3 * c .before .before .before .before .before .loop .i) (c .before .before .before .before .before .before .before .before .args .s .correct + c .before .before .before .before .before .before .before .before .args .s .faulty) (c .before .before .before .before .before .before .before .before .args .s .t) x)) (ap₂ _+_ (c .before .before .before .count .ensures .0) (c .before .before .gain .ensures .0))) (c .if1 .left)))
+    (λ c. let st = c .before .before .before .before .before .before .before .before in
+    let a = st .args in
+    (omega (arith, c .before .before .before .before .loop-test .taken), every-more _ (c .before .before .before .before .before .loop .i) (c .before .before .before .before .before .loop .inv .1) (c .before .unmet .ensures ∙ ap (λ (x : ℕ). not (metAt (a .table .now) (a .at + 3 * c .before .before .before .before .before .loop .i) (a .s .correct + a .s .faulty) (a .s .t) x)) (ap₂ _+_ (c .before .before .before .count .ensures .0) (c .before .before .gain .ensures .0))) (c .if1 .left)))
     (λ c. every-held _ (c .before .loop .inv .1) (c .before .loop .inv .0) (c .loop-test .left)))

@@ -11,6 +11,8 @@ receive-spec =
     (tie.spec
     (λ c κs. search needs)
     (λ c. if-yes _ refl (c .before .silent .ensures) (c .if1 .taken))
-    (λ c κs. (c .before .before .before .before .pre .0, names-type (c .before .before .before .before .args .s) (c .before .before .before .before .args .p) (c .before .before .before .before .args .m) (c .before .before .before .before .args .q) (c .before .before .before .before .pre .2) (c .before .before .silent .ensures) (c .before .if1 .left) (c .before .before .before .before .pre .1), names-source (c .before .before .before .before .args .s) (c .before .before .before .before .args .p) (c .before .before .before .before .args .m) (c .before .before .before .before .args .q) (c .before .before .before .before .pre .2) (c .before .before .silent .ensures) (c .before .if1 .left), c .before .before .before .before .pre .3))
+    (λ c κs. let st = c .before .before .before .before in
+    let a = st .args in
+    (st .pre .0, names-type (a .s) (a .p) (a .m) (a .q) (st .pre .2) (c .before .before .silent .ensures) (c .before .if1 .left) (st .pre .1), names-source (a .s) (a .p) (a .m) (a .q) (st .pre .2) (c .before .before .silent .ensures) (c .before .if1 .left), st .pre .3))
     (λ c. search needs)
     (λ c. if-no _ (c .before .before .before .before .before .silent .ensures) (c .before .before .before .before .if1 .left) (c .before .before .hear .ensures)))

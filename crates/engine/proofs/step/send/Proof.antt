@@ -18,5 +18,8 @@ send-spec =
     (λ c κs. search needs)
     (λ c κs. search needs)
     (λ c. search needs)
-    (λ c. c .before .before .tell .ensures ∙ send-one (c .before .before .before .before .before .before .before .before .before .before .before .args .s .correct) (c .before .before .before .before .before .before .before .before .before .before .before .args .s .types) (wide (c .before .before .before .before .before .before .before .before .before .before .before .args .s .form)) _ (bump (c .before .before .before .before .before .before .before .before .before .before .before .args .s .form) (columnIn (c .before .before .before .before .before .before .before .before .before .before .before .args .s) .own (c .before .before .before .before .before .before .before .before .before .before .before .args .p))) (c .before .before .before .before .before .before .before .before .before .before .before .args .w .now) (c .before .before .before .before .before .before .lowest-missing .ensures .0 ∙ ap₂ (λ (a b : ℕ). least (c .before .before .before .before .before .before .before .before .before .before .before .args .s .types) (missing a b)) (c .before .before .before .before .before .before .before .sent2 .ensures .0) (c .before .before .before .before .before .before .before .before .sent .ensures .0)) (c .before .before .before .before .before .before .before .before .before .before .before .pre .5) (c .before .before .before .before .if1 .taken))
-    (λ c. send-none (c .before .before .before .before .before .before .before .args .s .correct) (c .before .before .before .before .before .before .before .args .s .types) (wide (c .before .before .before .before .before .before .before .args .s .form)) _ (bump (c .before .before .before .before .before .before .before .args .s .form) (columnIn (c .before .before .before .before .before .before .before .args .s) .own (c .before .before .before .before .before .before .before .args .p))) (c .before .before .before .before .before .before .before .args .w .now) (c .before .before .lowest-missing .ensures .0 ∙ ap₂ (λ (a b : ℕ). least (c .before .before .before .before .before .before .before .args .s .types) (missing a b)) (c .before .before .before .sent2 .ensures .0) (c .before .before .before .before .sent .ensures .0)) (c .if1 .left)))
+    (λ c. let st = c .before .before .before .before .before .before .before .before .before .before .before in
+    let a = st .args in
+    c .before .before .tell .ensures ∙ send-one (a .s .correct) (a .s .types) (wide (a .s .form)) _ (bump (a .s .form) (columnIn (a .s) .own (a .p))) (a .w .now) (c .before .before .before .before .before .before .lowest-missing .ensures .0 ∙ ap₂ (λ (x y : ℕ). least (a .s .types) (missing x y)) (c .before .before .before .before .before .before .before .sent2 .ensures .0) (c .before .before .before .before .before .before .before .before .sent .ensures .0)) (st .pre .5) (c .before .before .before .before .if1 .taken))
+    (λ c. let a = c .before .before .before .before .before .before .before .args in
+    send-none (a .s .correct) (a .s .types) (wide (a .s .form)) _ (bump (a .s .form) (columnIn (a .s) .own (a .p))) (a .w .now) (c .before .before .lowest-missing .ensures .0 ∙ ap₂ (λ (x y : ℕ). least (a .s .types) (missing x y)) (c .before .before .before .sent2 .ensures .0) (c .before .before .before .before .sent .ensures .0)) (c .if1 .left)))

@@ -15,11 +15,24 @@ hear-spec =
     (tie.spec
     (λ c κs. search needs)
     (λ c κs. search needs)
-    (λ c. omega (arith, c .before .cell .ensures .2, c .slot .ensures .1, source-few (c .before .before .before .args .s .form) (c .before .before .before .args .s .correct) (c .before .before .before .args .s .faulty) (c .before .before .before .args .q) (c .before .before .before .pre .0 .boards) (c .before .before .before .pre .2 .below)))
-    (λ c. omega (arith, c .before .cell .ensures .2, c .slot .ensures .1, source-few (c .before .before .before .args .s .form) (c .before .before .before .args .s .correct) (c .before .before .before .args .s .faulty) (c .before .before .before .args .q) (c .before .before .before .pre .0 .boards) (c .before .before .before .pre .2 .below)))
-    (λ c. omega (arith, c .before .before .before .before .pre .3 .fits, c .before .slot .ensures .0, slot-below (c .before .before .before .before .args .s .form) (c .before .before .before .before .args .s .correct) (c .before .before .before .before .args .s .faulty) (c .before .before .before .before .args .q) (c .before .before .before .before .pre .2 .below), c .before .before .cell .ensures .1))
-    (λ c κs. (source-few (c .before .before .before .before .args .s .form) (c .before .before .before .before .args .s .correct) (c .before .before .before .before .args .s .faulty) (c .before .before .before .before .args .q) (c .before .before .before .before .pre .0 .boards) (c .before .before .before .before .pre .2 .below), λ ne. c .before .before .before .before .pre .3 .small ne _))
-    (λ c. omega (arith, c .before .before .before .cell .ensures .2, c .before .before .slot .ensures .1, source-few (c .before .before .before .before .before .args .s .form) (c .before .before .before .before .before .args .s .correct) (c .before .before .before .before .before .args .s .faulty) (c .before .before .before .before .before .args .q) (c .before .before .before .before .before .pre .0 .boards) (c .before .before .before .before .before .pre .2 .below)))
-    (λ c. omega (arith, c .before .before .before .before .before .pre .3 .fits, c .before .before .slot .ensures .0, slot-below (c .before .before .before .before .before .args .s .form) (c .before .before .before .before .before .args .s .correct) (c .before .before .before .before .before .args .s .faulty) (c .before .before .before .before .before .args .q) (c .before .before .before .before .before .pre .2 .below), c .before .before .before .cell .ensures .1))
+    (λ c. let st = c .before .before .before in
+    let a = st .args in
+    omega (arith, c .before .cell .ensures .2, c .slot .ensures .1, source-few (a .s .form) (a .s .correct) (a .s .faulty) (a .q) (st .pre .0 .boards) (st .pre .2 .below)))
+    (λ c. let st = c .before .before .before in
+    let a = st .args in
+    omega (arith, c .before .cell .ensures .2, c .slot .ensures .1, source-few (a .s .form) (a .s .correct) (a .s .faulty) (a .q) (st .pre .0 .boards) (st .pre .2 .below)))
+    (λ c. let st = c .before .before .before .before in
+    let a = st .args in
+    omega (arith, st .pre .3 .fits, c .before .slot .ensures .0, slot-below (a .s .form) (a .s .correct) (a .s .faulty) (a .q) (st .pre .2 .below), c .before .before .cell .ensures .1))
+    (λ c κs. let st = c .before .before .before .before in
+    let a = st .args in
+    (source-few (a .s .form) (a .s .correct) (a .s .faulty) (a .q) (st .pre .0 .boards) (st .pre .2 .below), λ ne. st .pre .3 .small ne _))
+    (λ c. let st = c .before .before .before .before .before in
+    let a = st .args in
+    omega (arith, c .before .before .before .cell .ensures .2, c .before .before .slot .ensures .1, source-few (a .s .form) (a .s .correct) (a .s .faulty) (a .q) (st .pre .0 .boards) (st .pre .2 .below)))
+    (λ c. let st = c .before .before .before .before .before in
+    let a = st .args in
+    omega (arith, st .pre .3 .fits, c .before .before .slot .ensures .0, slot-below (a .s .form) (a .s .correct) (a .s .faulty) (a .q) (st .pre .2 .below), c .before .before .before .cell .ensures .1))
     (λ c. search needs)
-    (λ c. rw (c .bump .ensures, c .before .before .slot .ensures .0, c .before .before .before .cell .ensures .0, cell-next (c .before .before .before .before .before .args .s .correct) (c .before .before .before .before .before .args .s .types) (wide (c .before .before .before .before .before .args .s .form)) (c .before .before .before .before .before .args .p) (c .before .before .before .before .before .args .m) (slot (c .before .before .before .before .before .args .s .form) (c .before .before .before .before .before .args .q)))))
+    (λ c. let a = c .before .before .before .before .before .args in
+    rw (c .bump .ensures, c .before .before .slot .ensures .0, c .before .before .before .cell .ensures .0, cell-next (a .s .correct) (a .s .types) (wide (a .s .form)) (a .p) (a .m) (slot (a .s .form) (a .q)))))

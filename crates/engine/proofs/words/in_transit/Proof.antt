@@ -19,10 +19,19 @@ in-transit-spec =
     (λ c. search needs)
     (λ c κs. search needs)
     (λ c. search needs)
-    (λ c. omega (arith, c .before .before .before .before .before .pre .3, wide-some (c .before .before .before .before .before .args .s .form) .0, c .before .before .before .cell .ensures .1))
+    (λ c. let st = c .before .before .before .before .before in
+    let a = st .args in
+    omega (arith, st .pre .3, wide-some (a .s .form) .0, c .before .before .before .cell .ensures .1))
     (λ c. search needs)
-    (λ c. omega (arith, c .before .before .before .before .before .before .pre .3, c .before .before .before .slot .ensures .0, slot-one (c .before .before .before .before .before .before .args .s .form), c .before .before .before .before .cell .ensures .1))
+    (λ c. let st = c .before .before .before .before .before .before in
+    let a = st .args in
+    omega (arith, st .pre .3, c .before .before .before .slot .ensures .0, slot-one (a .s .form), c .before .before .before .before .cell .ensures .1))
     (λ c. search needs)
-    (λ c. omega (arith, c .before .before .before .before .before .before .before .pre .3, c .before .before .before .sent .ensures .0, sent-in-room (c .before .before .before .before .before .before .before .args .s) (c .before .before .before .before .before .before .before .args .m) (c .before .before .before .before .before .before .before .pre .1 .type)))
-    (λ c κs. (source-few (c .before .before .before .before .before .before .before .args .s .form) (c .before .before .before .before .before .before .before .args .s .correct) (c .before .before .before .before .before .before .before .args .s .faulty) (c .before .before .before .before .before .before .before .args .q) (c .before .before .before .before .before .before .before .pre .0 .boards) (c .before .before .before .before .before .before .before .pre .2 .below), omega (arith, c .before .before .before .before .before .before .before .pre .0 .boards)))
-    (λ c. c .in-transit .ensures ∙ ap₂ (columnIn (c .before .before .before .before .before .before .before .before .args .s) .inTransit (c .before .before .before .before .before .before .before .before .args .q)) (coll-words (c .before .before .before .before .before .before .before .before .args .s .form) (c .before .before .before .before .before .before .before .before .args .s .correct) (c .before .before .before .before .before .before .before .before .args .s .faulty) (c .before .before .before .before .before .before .before .before .args .s .types) (c .before .before .before .before .before .before .before .before .args .p) (c .before .before .before .before .before .before .before .before .args .m) (c .before .before .before .before .before .before .before .before .args .w .now) (c .before .before .before .before .before .before .cell .ensures .0) (ap (λ (x : ℕ). c .before .before .before .before .before .before .cell .result + x) (c .before .before .before .before .before .slot .ensures .0))) (ap (shown (c .before .before .before .before .before .before .before .before .args .s .form) (c .before .before .before .before .before .before .before .before .args .s .correct) (c .before .before .before .before .before .before .before .before .args .s .faulty)) (sent-word (c .before .before .before .before .before .before .before .before .args .s .correct) (c .before .before .before .before .before .before .before .before .args .s .types) (wide (c .before .before .before .before .before .before .before .before .args .s .form)) (c .before .before .before .before .before .before .before .before .args .m) (c .before .before .before .before .before .before .before .before .args .w .now) (c .before .before .before .before .sent .ensures .0)))))
+    (λ c. let st = c .before .before .before .before .before .before .before in
+    let a = st .args in
+    omega (arith, st .pre .3, c .before .before .before .sent .ensures .0, sent-in-room (a .s) (a .m) (st .pre .1 .type)))
+    (λ c κs. let st = c .before .before .before .before .before .before .before in
+    let a = st .args in
+    (source-few (a .s .form) (a .s .correct) (a .s .faulty) (a .q) (st .pre .0 .boards) (st .pre .2 .below), omega (arith, st .pre .0 .boards)))
+    (λ c. let a = c .before .before .before .before .before .before .before .before .args in
+    c .in-transit .ensures ∙ ap₂ (columnIn (a .s) .inTransit (a .q)) (coll-words (a .s .form) (a .s .correct) (a .s .faulty) (a .s .types) (a .p) (a .m) (a .w .now) (c .before .before .before .before .before .before .cell .ensures .0) (ap (λ (x : ℕ). c .before .before .before .before .before .before .cell .result + x) (c .before .before .before .before .before .slot .ensures .0))) (ap (shown (a .s .form) (a .s .correct) (a .s .faulty)) (sent-word (a .s .correct) (a .s .types) (wide (a .s .form)) (a .m) (a .w .now) (c .before .before .before .before .sent .ensures .0)))))

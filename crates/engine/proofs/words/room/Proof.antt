@@ -10,4 +10,6 @@ room-spec =
     (tie.spec
     (λ c κs. search needs)
     (λ c. search needs)
-    (λ c. (rw (c .before .sent .ensures .0) (room-is (c .before .before .args .s)), omega (arith, c .before .before .pre .types))))
+    (λ c. let st = c .before .before in
+    let a = st .args in
+    (rw (c .before .sent .ensures .0) (room-is (a .s)), omega (arith, st .pre .types))))

@@ -10,9 +10,19 @@ unfolding sentAt
 sent-spec =
     tie.close
     (tie.spec
-    (λ c. omega (arith, cells-few (c .before .args .s) (c .before .pre .0)))
+    (λ c. let st = c .before in
+    let a = st .args in
+    omega (arith, cells-few (a .s) (st .pre .0)))
     (λ c κs. search needs)
-    (λ c. omega (arith, words-few (c .before .before .args .s) (c .before .before .pre .0) (c .wide .result) (c .wide .ensures .2)))
-    (λ c. omega (arith, words-few (c .before .before .before .args .s) (c .before .before .before .pre .0) (c .before .wide .result) (c .before .wide .ensures .2)))
-    (λ c. omega (arith, words-few (c .before .before .before .args .s) (c .before .before .before .pre .0) (c .before .wide .result) (c .before .wide .ensures .2)))
-    (λ c. (rw (c .before .wide .ensures .0), omega (arith, words-few (c .before .before .before .args .s) (c .before .before .before .pre .0) (c .before .wide .result) (c .before .wide .ensures .2)))))
+    (λ c. let st = c .before .before in
+    let a = st .args in
+    omega (arith, words-few (a .s) (st .pre .0) (c .wide .result) (c .wide .ensures .2)))
+    (λ c. let st = c .before .before .before in
+    let a = st .args in
+    omega (arith, words-few (a .s) (st .pre .0) (c .before .wide .result) (c .before .wide .ensures .2)))
+    (λ c. let st = c .before .before .before in
+    let a = st .args in
+    omega (arith, words-few (a .s) (st .pre .0) (c .before .wide .result) (c .before .wide .ensures .2)))
+    (λ c. let st = c .before .before .before in
+    let a = st .args in
+    (rw (c .before .wide .ensures .0), omega (arith, words-few (a .s) (st .pre .0) (c .before .wide .result) (c .before .wide .ensures .2)))))

@@ -13,9 +13,15 @@ tell-spec =
     (tie.spec
     (λ c κs. search needs)
     (λ c. search needs)
-    (λ c. omega (arith, c .before .before .before .pre .2 .fits, c .before .sent .ensures .0, sent-in-room (c .before .before .before .args .s) (c .before .before .before .args .m) (c .before .before .before .pre .1 .type)))
-    (λ c κs. (omega (arith, c .before .before .before .pre .0 .boards, c .before .before .before .pre .1 .board), λ ne. c .before .before .before .pre .2 .small ne _))
+    (λ c. let st = c .before .before .before in
+    let a = st .args in
+    omega (arith, st .pre .2 .fits, c .before .sent .ensures .0, sent-in-room (a .s) (a .m) (st .pre .1 .type)))
+    (λ c κs. let st = c .before .before .before in
+    (omega (arith, st .pre .0 .boards, st .pre .1 .board), λ ne. st .pre .2 .small ne _))
     (λ c. search needs)
-    (λ c. omega (arith, c .before .before .before .before .pre .2 .fits, c .before .before .sent .ensures .0, sent-in-room (c .before .before .before .before .args .s) (c .before .before .before .before .args .m) (c .before .before .before .before .pre .1 .type)))
+    (λ c. let st = c .before .before .before .before in
+    let a = st .args in
+    omega (arith, st .pre .2 .fits, c .before .before .sent .ensures .0, sent-in-room (a .s) (a .m) (st .pre .1 .type)))
     (λ c. search needs)
-    (λ c. rw (c .bump .ensures, c .before .before .sent .ensures .0, bump-own (c .before .before .before .before .args .s .form) (c .before .before .before .before .args .s .correct) (c .before .before .before .before .args .s .faulty) (c .before .before .before .before .args .p))))
+    (λ c. let a = c .before .before .before .before .args in
+    rw (c .bump .ensures, c .before .before .sent .ensures .0, bump-own (a .s .form) (a .s .correct) (a .s .faulty) (a .p))))

@@ -1,0 +1,101 @@
+// The echo table and schedule W (outline, "The echo table and one bundle"), for programs.
+ghost use mathlib.Core.Path.{_≡_};
+ghost use Rattle.echo.specs.Echo as echo;
+
+// The echo table.
+pub fn table() -> [u8; 51]
+    ensures { λ r. ⌜ r ≡ echo.echo ⌝ }
+{
+    [
+        0x01,
+        0x00,
+        0x01,
+        0x00,
+        0x00,
+        0x01,
+        0x02,
+        0x01,
+        0x00,
+        0x00,
+        0x00,
+        0x00,
+        0x00,
+        0x00,
+        0x02,
+        0x00,
+        0x01,
+        0x01,
+        0x00,
+        0x03,
+        0x01,
+        0xff,
+        0x00,
+        0x01,
+        0x02,
+        0x00,
+        0x00,
+        0x00,
+        0x02,
+        0x02,
+        0x00,
+        0x00,
+        0x00,
+        0x02,
+        0x03,
+        0x01,
+        0xff,
+        0x00,
+        0x03,
+        0x03,
+        0x00,
+        0x00,
+        0x00,
+        0x2b,
+        0x00,
+        0x23,
+        0x00,
+        0x04,
+        0x07,
+        0x01,
+        0x03,
+    ]
+}
+
+// Schedule W.
+pub fn schedule() -> [u8; 31]
+    ensures { λ r. ⌜ r ≡ echo.W ⌝ }
+{
+    [
+        0x01,
+        0x01,
+        0x01,
+        0x00,
+        0x03,
+        0xff,
+        0xff,
+        0x01,
+        0x03,
+        0xff,
+        0xff,
+        0x02,
+        0x03,
+        0x00,
+        0x00,
+        0x02,
+        0x04,
+        0x00,
+        0x03,
+        0x02,
+        0x05,
+        0x00,
+        0x01,
+        0x14,
+        0x00,
+        0x17,
+        0x00,
+        0x04,
+        0x01,
+        0x01,
+        0x00,
+    ]
+}
