@@ -14,6 +14,8 @@ use Rattle.paper.specs.Step.{heard, stepped, malformed, notInTransit, notMet, s
 use Rattle.paper.specs.Run.{stepsIn, run}
 use Rattle.engine.specs.Design.{metAt}
 use Rattle.engine.specs.Entry.{ranWith, ranAnswer, runAnswer, runWords}
+use Rattle.first_step.specs.First.{orElse, seek, tries, first}
+use Rattle.first_step.specs.Entry.{afterRun, firstAnswer}
 use Rattle.claims.specs.Figures.{Every, cases}
 
 pub figures : Every cases
@@ -21,32 +23,5 @@ unfolding
     count some every mem insert signedByte thresholdOf _if_else_ _▹_ firstFault ruleAt tooShort countsOff distancesOff stateOff noInitial noState forgets sendsTwo
     stateFault ruleFault recordsFault tableFault frontLength tableInUse startsOf stepsOf noTrailer outOfBundle notAdmitted stepsOff notInitial startFault scheduleFault
     faultWith size cellAt sentAt state cell sent hear tell start wide slot bump coll shown heard stepped malformed notInTransit notMet stepFault stepsIn run metAt ranWith
-    ranAnswer runAnswer runWords
-figures = (
-  refl,
-  (
-    refl,
-    (
-      refl,
-      (
-        refl,
-        (
-          refl,
-          (
-            refl,
-            (
-              (refl, refl),
-              (
-                (refl, refl),
-                (
-                  (refl, refl),
-                  (refl, (refl, (refl, (refl, (refl, ((refl, refl), ((refl, refl), ((refl, refl), ((refl, refl), tt))))))))),
-                ),
-              ),
-            ),
-          ),
-        ),
-      ),
-    ),
-  ),
-)
+    ranAnswer runAnswer runWords orElse seek tries first afterRun firstAnswer
+figures = (refl, (refl, (refl, (refl, (refl, (refl, ((refl, refl), ((refl, refl), ((refl, refl), (refl, (refl, (refl, (refl, (refl, ((refl, refl), ((refl, refl), ((refl, refl), ((refl, refl), (refl, (refl, (refl, tt)))))))))))))))))))))

@@ -1,2 +1,3 @@
 pub mod Figures
 pub mod Demand2
+pub mod FirstStep

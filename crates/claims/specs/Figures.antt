@@ -10,6 +10,8 @@ use Rattle.table.specs.Table.{coefficientsAt}
 use Rattle.bundle.specs.Refusals.{readFault}
 use Rattle.engine.specs.Design.{thresholdAt}
 use Rattle.engine.specs.Entry.{runAnswer, runWords}
+use Rattle.first_step.specs.declared.First.{First}
+use Rattle.first_step.specs.Entry.{firstAnswer}
 use Rattle.echo.specs.Echo.{echo, fiveSteps, W, WCounting}
 
 pub data Case : Type 0 where
@@ -21,6 +23,8 @@ pub data Case : Type 0 where
   reads : List ℕ → List ℕ → ℕ → ℕ → Case
   -- a run of a bundle beside a standing table answers refusal, place and steps, and leaves these words in as many lent ones
   runs : List ℕ → List ℕ → ℕ → ℕ → ℕ → List ℕ → Case
+  -- the first-step question on a bundle beside a standing table has this answer
+  firstOf : List ℕ → List ℕ → First → Case
 
 abbrev pub Holds : Case → Type 0
 Holds (comesTo a b d n t z) = thresholdOf a b d n t ≡ z
@@ -28,6 +32,7 @@ Holds (asks table r m n t z) = thresholdAt table (coefficientsAt table r m) n t 
 Holds (reads b standing k p) = readFault b standing ≡ verdict k p
 Holds (runs b standing k p i words) =
     (runAnswer b standing (length words) ≡ record { refusal = k; place = p; count = i }) × (runWords b standing (replicate (length words) 9) ≡ words)
+Holds (firstOf b standing answer) = firstAnswer b standing ≡ answer
 
 abbrev pub Every : List Case → Type 0
 Every [] = Unit {0}
@@ -64,4 +69,8 @@ cases =
     runs (schedule (0 ∷ 0 ∷ 0 ∷ []) (0 ∷ 0 ∷ 0 ∷ 1 ∷ []) 4 1 1) echo 24 0 0 (0 ∷ 0 ∷ 0 ∷ 0 ∷ 0 ∷ 0 ∷ 0 ∷ []) ∷
     -- P10: a board can't hear its echo in the step that sends it; it can in the next
     runs (schedule (1 ∷ []) (0 ∷ 3 ∷ 0 ∷ 0 ∷ []) 1 0 0) echo 24 0 0 (1 ∷ 0 ∷ 0 ∷ []) ∷
-    runs (schedule (1 ∷ []) (0 ∷ 3 ∷ 255 ∷ 255 ∷ 0 ∷ 5 ∷ 0 ∷ 0 ∷ []) 1 0 0) echo 0 0 2 (3 ∷ 1 ∷ 1 ∷ []) ∷ []
+    runs (schedule (1 ∷ []) (0 ∷ 3 ∷ 255 ∷ 255 ∷ 0 ∷ 5 ∷ 0 ∷ 0 ∷ []) 1 0 0) echo 0 0 2 (3 ∷ 1 ∷ 1 ∷ []) ∷
+    -- after W the first possible step is 00 04 FF FF, in both forms; after P5's refusal there is none
+    firstOf W echo (First.Step 0 4 255 255) ∷
+    firstOf WCounting echo (First.Step 0 4 255 255) ∷
+    firstOf (fiveSteps 0 3 0 0) echo (First.Refused 24 4) ∷ []

@@ -19,11 +19,14 @@ use Rattle.paper.specs.Words.{start}
 use Rattle.paper.specs.Form.{wide}
 use Rattle.paper.specs.Run.{stepsIn, run}
 use Rattle.paper.proofs.WordLaws.{start-low, start-high, length-start}
+use Rattle.paper.proofs.RunLaws.{length-steps}
 use Rattle.engine.specs.declared.Sizes.{Sizes}
 use Rattle.engine.specs.declared.Answer.{Answer}
 use Rattle.engine.specs.Design.{sizesOf, designOf, roomOf}
 use Rattle.engine.specs.Entry.{sizesIn, ranWith, unrun, ranAnswer, runAnswer, runWords}
 use Rattle.engine.specs.Facts.{Suits, Holds}
+use Rattle.engine.proofs.KeepLaws.{holds-more}
+use Rattle.engine.proofs.RunLaws.{run-holds}
 
 -- ---- what was read
 module _ (t b : List ℕ) (R : Read t b) where
@@ -59,6 +62,16 @@ pub same-run : {s : Sizes} {ss st w : List ℕ} (t b : List ℕ) → s ≡ sizes
     → run (s .form) (designOf s t) w (stepsIn st) ≡ ranWith t b
 unfolding ranWith
 same-run t b e f g h = rw (g, f, h, e)
+
+-- the words that it leaves are small enough to step on
+pub ran-holds : {s : Sizes} {w : List ℕ} (t b : List ℕ) → Read t b → s ≡ sizesOf t b → w ≡ ranWith t b .words → Holds s 1000000 w
+unfolding ranWith
+ran-holds {s} {w} t b R e f =
+    let z = sizesOf t b in
+    let l = R .parted .steps-long in
+    let n : length (stepsIn (stepsOf b)) ≡ length (stepsOf b) / 4 = length-steps (length (stepsOf b) / 4) (stepsOf b) (omega (arith, R .parted .whole-steps)) in
+    let H = run-holds z t (suits t b R refl) (stepsIn (stepsOf b)) 16 (start (z .types) (wide (z .form)) (startsOf b)) (omega arith) (start-holds t b R refl refl refl) in
+    subst⁻¹ (λ (x : Sizes). Holds x 1000000 w) e (subst⁻¹ (Holds z 1000000) f (holds-more z (16 + 5 * length (stepsIn (stepsOf b))) 1000000 _ (omega (arith, R .parted .few-steps)) H))
 
 -- ---- the entry
 pub record Entered (b standing lent : List ℕ) (a : Answer) (u : List ℕ) : Type 0 where

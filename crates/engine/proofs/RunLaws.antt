@@ -1,7 +1,7 @@
 -- The first configuration, word by word, and what the loop over the steps keeps.
 use mathlib.Core.Path.{_≡_, sym, ap, _∙_, subst⁻¹}
-use mathlib.Core.List.{List}
-use Prim.Native.Nat.{ℕ, _+_, _*_, _≤_, _<_}
+use mathlib.Core.List.{List, [], _∷_}
+use Prim.Native.Nat.{ℕ, suc, _+_, _*_, _≤_, _<_}
 use native.Mathlib.Decide.{ℕ-discrete, decLt}
 use native.Mathlib.Omega.{arith}
 use lib.Dec.{eqb}
@@ -9,13 +9,13 @@ use lib.ListN.{length, getD, set, List·getD-eq-default}
 use lib.Seq.{getD-set-same, getD-set-other, ext-getD}
 use borrow.Author.Tests.{eq-eqb, ne-eqb}
 use Rattle.fault.specs.Fault.{_if_else_}
-use Rattle.paper.specs.Paper.{Design}
+use Rattle.paper.specs.Paper.{Design, Step}
 use Rattle.paper.specs.Words.{start}
 use Rattle.paper.specs.Form.{wide}
 use Rattle.paper.specs.Step.{stepFault, stepped}
 use Rattle.paper.specs.Run.{stepsIn, Ran, run, noStep}
 use Rattle.paper.proofs.WordLaws.{start-low, start-high, length-start}
-use Rattle.paper.proofs.RunLaws.{length-steps, step-at, Running, ranTo, running-starts, running-goes, running-stops, running-ends}
+use Rattle.paper.proofs.RunLaws.{length-steps, run-goes, run-stops, step-at, Running, ranTo, running-starts, running-goes, running-stops, running-ends}
 use Rattle.engine.specs.declared.Sizes.{Sizes}
 use Rattle.engine.specs.declared.Answer.{Answer}
 use Rattle.engine.specs.Design.{designOf, recordAt, roomOf}
@@ -106,3 +106,20 @@ module _ (s : Sizes) (tab w₀ steps : List ℕ) (S : Suits s tab) (H : Holds s 
       let k : i ≡ n = omega arith in
       let r : all ≡ ranTo n 0 w = running-ends (s .form) d w₀ (stepsIn steps) i w (F .running) (rw (length-steps n steps l) b) ∙ ap (λ (j : ℕ). ranTo j 0 w) k in
       told n 0 w r (F .holds .fits ∙ sym (H .fits))
+
+-- ---- the words that a run leaves
+pub run-holds : (s : Sizes) (tab : List ℕ) → Suits s tab → (ss : List Step) (k : ℕ) (w : List ℕ) → 16 ≤ k → Holds s k w → Holds s (k + 5 * length ss) (run (s .form) (designOf s tab) w ss .words)
+unfolding run
+run-holds s tab S [] k w h H = holds-more s k (k + 5 * 0) w (omega arith) H
+run-holds s tab S (x ∷ ss) k w h H = go (ℕ-discrete (stepFault (s .form) (designOf s tab) w x) 0) (run-holds s tab S ss (k + 5) (stepped (s .form) (designOf s tab) w x) (omega arith))
+  where
+    d : Design
+    d = designOf s tab
+
+    go : Dec (stepFault (s .form) d w x ≡ 0) → (Holds s (k + 5) (stepped (s .form) d w x) → Holds s (k + 5 + 5 * length ss) (run (s .form) d (stepped (s .form) d w x) ss .words))
+        → Holds s (k + 5 * suc (length ss)) (run (s .form) d w (x ∷ ss) .words)
+    go (yes z) ih =
+        let G = granted s tab w (x .board) (x .rule) (x .type) (x .source) S z in
+        let u = holds-stepped s tab w (x .board) (x .rule) (x .type) (x .source) k H (S .bounded .types) (omega (arith, G .to, S .formed .sized .few-states)) in
+        subst⁻¹ (λ (r : Ran). Holds s (k + 5 * suc (length ss)) (r .words)) (run-goes (s .form) d w x ss z) (holds-more s (k + 5 + 5 * length ss) (k + 5 * suc (length ss)) _ (omega arith) (ih u))
+    go (no n) ih = subst⁻¹ (λ (r : Ran). Holds s (k + 5 * suc (length ss)) (r .words)) (run-stops (s .form) d w x ss n) (holds-more s k (k + 5 * suc (length ss)) w (omega arith) H)

@@ -17,6 +17,7 @@ pub record Design : Type 0 where
   pub faulty : ℕ
   -- the message types, MT
   pub types : ℕ
+  -- the local transitions; waiting is a rule too, since every receipt needs one (outline)
   pub rules : ℕ
   -- the initial control states
   pub initial : ℕ → Bool

@@ -1,0 +1,28 @@
+-- The first possible step: none exactly when no step is accepted; what is found is accepted, and nothing earlier is.
+-- Proofs: proofs/FirstStep.antt.
+use mathlib.Core.Path.{_≡_}
+use mathlib.Core.Bool.{true, false}
+use mathlib.Core.List.{List}
+use Prim.Native.Nat.{ℕ, _<_}
+use Rattle.paper.specs.Paper.{Design, Step, silent}
+use Rattle.paper.specs.Step.{stepFault}
+use Rattle.first_step.specs.First.{none, found, first}
+
+-- ---- the outline's order: by board, then rule, then no message before type 0, 1, .. and source 0, 1, .. within a type
+pub data EarlierMessage (s t : Step) : Type 0 where
+  noMessage : silent s ≡ true → silent t ≡ false → EarlierMessage s t
+  lowerType : silent s ≡ false → silent t ≡ false → s .type < t .type → EarlierMessage s t
+  lowerSource : silent s ≡ false → silent t ≡ false → s .type ≡ t .type → s .source < t .source → EarlierMessage s t
+
+pub data Earlier (s t : Step) : Type 0 where
+  lowerBoard : s .board < t .board → Earlier s t
+  lowerRule : s .board ≡ t .board → s .rule < t .rule → Earlier s t
+  message : s .board ≡ t .board → s .rule ≡ t .rule → EarlierMessage s t → Earlier s t
+
+pub record FirstPossible (k : ℕ) (d : Design) (w : List ℕ) : Type 0 where
+  -- none exactly when no step is accepted
+  pub none-possible : first k d w ≡ none → (s : Step) → stepFault k d w s ≡ 0 → ⊥
+  pub nothing-else : ((s : Step) → stepFault k d w s ≡ 0 → ⊥) → first k d w ≡ none
+  -- the found one is accepted, and no earlier one is
+  pub accepted : (s : Step) → first k d w ≡ found s → stepFault k d w s ≡ 0
+  pub earliest : (s : Step) → first k d w ≡ found s → (t : Step) → Earlier t s → stepFault k d w t ≡ 0 → ⊥
