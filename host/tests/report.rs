@@ -1,0 +1,37 @@
+//! The proved report program against the model, on seeded bundles. `SEEDS=n` tries more of them.
+
+use macaroosh::bundles::{any, Dice};
+use macaroosh::model::report;
+use std::collections::BTreeMap;
+use std::io::Write;
+use std::path::Path;
+use std::process::{Command, Stdio};
+
+fn proved(bundle: &[u8]) -> String {
+    let program = Path::new(env!("CARGO_MANIFEST_DIR")).join("../tests/run-report");
+    let mut child = Command::new(program)
+        .stdin(Stdio::piped())
+        .stdout(Stdio::piped())
+        .spawn()
+        .expect("the report program starts: run 'rt check report' first");
+    // The program stops reading past its limit; a closed pipe is no fault of the test.
+    let _ = child.stdin.take().expect("its input").write_all(bundle);
+    let output = child.wait_with_output().expect("the report program ends");
+    String::from_utf8(output.stdout).expect("text")
+}
+
+#[test]
+fn the_report_program_agrees_with_the_model() {
+    let seeds = std::env::var("SEEDS").ok().and_then(|n| n.parse().ok()).unwrap_or(1_500);
+    let mut seen: BTreeMap<String, usize> = BTreeMap::new();
+    for seed in 1..=seeds {
+        let bundle = any(&mut Dice::new(seed));
+        let expected = report(&bundle);
+        assert_eq!(proved(&bundle), expected, "seed {seed}: {bundle:02x?}");
+        let refusal = expected.split(' ').nth(1).expect("a number").to_string();
+        *seen.entry(refusal).or_default() += 1;
+    }
+    for refusal in ["0", "3", "4", "6", "10", "11", "12", "13", "14", "20", "21", "22", "23", "24", "25"] {
+        assert!(seen.contains_key(refusal), "no bundle was refused with {refusal}: {seen:?}");
+    }
+}
