@@ -13,11 +13,11 @@ use Rattle.paper.specs.Paper.{Design, Conf, Step, Moves, Initial}
 use Rattle.paper.specs.Words.{state, start}
 use Rattle.paper.specs.Form.{wide}
 use Rattle.paper.specs.Step.{columnOf, view, stepFault, stepped}
-use Rattle.paper.specs.Run.{Ran, run, stepAt, after}
+use Rattle.paper.specs.Run.{run, stepAt, after}
 use Rattle.paper.proofs.WordLaws.{start-low, length-start, cell-start, sent-start, same-words}
 use Rattle.paper.proofs.FormLaws.{coll-inj, shown-inj, coll-init, shown-init}
 use Rattle.paper.proofs.StepLaws.{length-stepped, step-moves, moves-step, moves-one}
-use Rattle.paper.proofs.RunLaws.{run-goes, run-stops}
+use Rattle.paper.proofs.RunLaws.{run-goes, run-stops, after-none, after-goes}
 use Rattle.engine.specs.Design.{sizesOf, designOf}
 use Rattle.engine.specs.Entry.{startOf, scheduleOf, ranWith}
 use Rattle.claims.specs.Demand2.{Sized, StepMoves, RunMoves, BundleMoves, Demand2}
@@ -48,13 +48,6 @@ module _ (k : ℕ) (d : Design) (w : List ℕ) (s : Step) (l : Sized k d w) wher
 
 -- ---- a run
 module _ (k : ℕ) (d : Design) where
-  after-none : (w : List ℕ) (ss : List Step) → after k d w ss 0 ≡ w
-  unfolding run
-  after-none w ss = refl
-
-  after-goes : (w : List ℕ) (s : Step) (ss : List Step) (i : ℕ) → stepFault k d w s ≡ 0 → after k d w (s ∷ ss) (suc i) ≡ after k d (stepped k d w s) ss i
-  after-goes w s ss i h = ap (λ (r : Ran). r .words) (run-goes k d w s _ h)
-
   run-is : (ss : List Step) (w : List ℕ) → Sized k d w → RunMoves k d w ss (run k d w ss)
   unfolding run
   run-is [] w l = record {
@@ -70,7 +63,7 @@ module _ (k : ℕ) (d : Design) where
       go : Dec (stepFault k d w s ≡ 0) → RunMoves k d (stepped k d w s) ss (run k d (stepped k d w s) ss) → RunMoves k d w (s ∷ ss) (run k d w (s ∷ ss))
       go (yes z) R = subst⁻¹ (RunMoves k d w (s ∷ ss)) (run-goes k d w s ss z) (record {
         each = at;
-        left = R .left ∙ sym (after-goes w s ss (run k d (stepped k d w s) ss .accepted) z);
+        left = R .left ∙ sym (after-goes k d w s ss z (run k d (stepped k d w s) ss .accepted));
         whole = λ y. ap suc (R .whole y);
         next = λ n. suc-le-suc (R .next n);
         number = R .number;
@@ -78,10 +71,10 @@ module _ (k : ℕ) (d : Design) where
       })
         where
           at : (i : ℕ) → i < suc (run k d (stepped k d w s) ss .accepted) → Moves d (columnOf k d) (stepAt (s ∷ ss) i) (view k d (after k d w (s ∷ ss) i)) (view k d (after k d w (s ∷ ss) (suc i)))
-          at zero h = subst⁻¹ (λ (u : List ℕ). Moves d (columnOf k d) s (view k d w) (view k d u)) (after-goes w s ss 0 z ∙ after-none (stepped k d w s) ss) (step-moves k d w s l z)
+          at zero h = subst⁻¹ (λ (u : List ℕ). Moves d (columnOf k d) s (view k d w) (view k d u)) (after-goes k d w s ss z 0 ∙ after-none k d (stepped k d w s) ss) (step-moves k d w s l z)
           at (suc i) h =
-              subst⁻¹ (λ (u : List ℕ). Moves d (columnOf k d) (stepAt ss i) (view k d u) (view k d (after k d w (s ∷ ss) (suc (suc i))))) (after-goes w s ss i z)
-              (subst⁻¹ (λ (u : List ℕ). Moves d (columnOf k d) (stepAt ss i) (view k d (after k d (stepped k d w s) ss i)) (view k d u)) (after-goes w s ss (suc i) z) (R .each i (le-of-suc-le-suc h)))
+              subst⁻¹ (λ (u : List ℕ). Moves d (columnOf k d) (stepAt ss i) (view k d u) (view k d (after k d w (s ∷ ss) (suc (suc i))))) (after-goes k d w s ss z i)
+              (subst⁻¹ (λ (u : List ℕ). Moves d (columnOf k d) (stepAt ss i) (view k d (after k d (stepped k d w s) ss i)) (view k d u)) (after-goes k d w s ss z (suc i)) (R .each i (le-of-suc-le-suc h)))
       go (no n) R = subst⁻¹ (RunMoves k d w (s ∷ ss)) (run-stops k d w s ss n) (record {
         each = λ i h. absurd (not-suc-le-zero h);
         left = refl;

@@ -1,6 +1,6 @@
 -- Each figure is computed from the definitions.
 use mathlib.Core.Path.{refl}
-use Rattle.senders.specs.Tally.{count, some, every}
+use Rattle.senders.specs.Tally.{count, some, every, least}
 use Rattle.senders.specs.Set.{mem, insert}
 use Rattle.threshold.specs.Threshold.{signedByte, thresholdOf}
 use Rattle.fault.specs.Fault.{_if_else_, _▹_, firstFault}
@@ -12,6 +12,7 @@ use Rattle.paper.specs.Words.{size, cellAt, sentAt, state, cell, sent, hear, te
 use Rattle.paper.specs.Form.{wide, slot, bump, coll, shown}
 use Rattle.paper.specs.Step.{heard, stepped, malformed, notInTransit, notMet, stepFault}
 use Rattle.paper.specs.Run.{stepsIn, run}
+use Rattle.agree.specs.Translation.{tagOf, tagged, lowSender, lowest, lowAll}
 use Rattle.engine.specs.Design.{metAt}
 use Rattle.engine.specs.Entry.{ranWith, ranAnswer, runAnswer, runWords}
 use Rattle.first_step.specs.First.{orElse, seek, tries, first}
@@ -22,6 +23,6 @@ pub figures : Every cases
 unfolding
     count some every mem insert signedByte thresholdOf _if_else_ _▹_ firstFault ruleAt tooShort countsOff distancesOff stateOff noInitial noState forgets sendsTwo
     stateFault ruleFault recordsFault tableFault frontLength tableInUse startsOf stepsOf noTrailer outOfBundle notAdmitted stepsOff notInitial startFault scheduleFault
-    faultWith size cellAt sentAt state cell sent hear tell start wide slot bump coll shown heard stepped malformed notInTransit notMet stepFault stepsIn run metAt ranWith
+    faultWith size cellAt sentAt state cell sent hear tell start wide slot bump coll shown heard stepped malformed notInTransit notMet stepFault stepsIn run tagOf tagged lowSender lowest lowAll least metAt ranWith
     ranAnswer runAnswer runWords orElse seek tries first afterRun firstAnswer
-figures = (refl, (refl, (refl, (refl, (refl, (refl, ((refl, refl), ((refl, refl), ((refl, refl), (refl, (refl, (refl, (refl, (refl, ((refl, refl), ((refl, refl), ((refl, refl), ((refl, refl), (refl, (refl, (refl, tt)))))))))))))))))))))
+figures = (refl, (refl, (refl, (refl, (refl, (refl, ((refl, refl), ((refl, refl), ((refl, refl), (refl, (refl, (refl, (refl, (refl, (refl, (refl, (refl, ((refl, refl), ((refl, refl), ((refl, refl), ((refl, refl), (refl, (refl, (refl, tt))))))))))))))))))))))))

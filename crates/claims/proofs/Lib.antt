@@ -1,3 +1,4 @@
 pub mod Figures
 pub mod Demand2
+pub mod Agreed
 pub mod FirstStep

@@ -5,13 +5,13 @@ use Prim.Native.Nat.{ℕ, zero, suc, _+_, _*_, _≤_, _<_}
 use native.Mathlib.Nat.{not-suc-le-zero, le-of-suc-le-suc, add-zero}
 use native.Mathlib.Numerals.{add-one}
 use native.Mathlib.Omega.{arith}
-use lib.ListN.{length, getD, drop}
+use lib.ListN.{length, getD, take, drop}
 use lib.Seq.{drop-cons}
 use borrow.Author.Tests.{eq-eqb, ne-eqb}
 use Rattle.fault.specs.Fault.{_if_else_}
 use Rattle.paper.specs.Paper.{Design, Step}
 use Rattle.paper.specs.Step.{stepFault, stepped}
-use Rattle.paper.specs.Run.{stepsIn, Ran, oneMore, run, noStep}
+use Rattle.paper.specs.Run.{stepsIn, Ran, oneMore, run, noStep, after}
 
 -- ---- the steps that bytes hold
 pub length-steps : (n : ℕ) (bs : List ℕ) → length bs ≡ n * 4 → length (stepsIn bs) ≡ n
@@ -49,6 +49,15 @@ module _ (k : ℕ) (d : Design) (w : List ℕ) (s : Step) (ss : List Step) where
   pub run-stops : (stepFault k d w s ≡ 0 → ⊥) → run k d w (s ∷ ss) ≡ record { accepted = 0; refusal = stepFault k d w s; words = w }
   unfolding run _if_else_
   run-stops h = rw (ne-eqb _ 0 h)
+
+-- ---- the words after a number of steps
+module _ (k : ℕ) (d : Design) (w : List ℕ) where
+  pub after-none : (ss : List Step) → after k d w ss 0 ≡ w
+  unfolding run
+  after-none ss = refl
+
+  pub after-goes : (s : Step) (ss : List Step) → stepFault k d w s ≡ 0 → (i : ℕ) → after k d w (s ∷ ss) (suc i) ≡ after k d (stepped k d w s) ss i
+  after-goes s ss z i = ap (λ (r : Ran). r .words) (run-goes k d w s (take i ss) z)
 
 -- ---- the loop: after i steps the run is the run of what is left, i steps on
 abbrev pub on : ℕ → Ran → Ran

@@ -1,0 +1,3 @@
+pub mod Translation
+pub mod Picture
+pub mod Agreement
