@@ -92,8 +92,7 @@ pub fn bundle(dice: &mut Dice) -> Vec<u8> {
     let t = dice.between(0, (n - 1) / factor);
     let f = dice.between(0, t);
     let form = dice.below(2) as u8;
-    let initial: Vec<u8> =
-        (0..table[table.len() - 4]).filter(|&s| table[2 * usize::from(s)] & 1 == 1).collect();
+    let initial: Vec<u8> = (0..table[table.len() - 4]).filter(|&s| table[2 * usize::from(s)] & 1 == 1).collect();
     let mut bytes = if own { table } else { Vec::new() };
     bytes.extend((0..n - f).map(|_| dice.one_of(&initial)));
     let empty = closed(&bytes, &[], n - f, [n as u8, t as u8, f as u8, form]);
@@ -148,12 +147,8 @@ fn guess(dice: &mut Dice, bundle: &Bundle, configuration: &Configuration) -> Opt
     if bundle.table.rules[rule].from != configuration.states[board] {
         return None;
     }
-    let (kind, source) = if dice.once_in(3) {
-        (255, 255)
-    } else {
-        let sources = if bundle.counting { 2 } else { bundle.n };
-        (dice.below(bundle.table.types), dice.below(sources))
-    };
+    let (kind, source) =
+        if dice.once_in(3) { (255, 255) } else { (dice.below(bundle.table.types), dice.below(bundle.sources())) };
     Some(Step { board: board as u8, rule: rule as u8, kind: kind as u8, source: source as u8 })
 }
 

@@ -63,6 +63,13 @@ pub struct Step {
     pub source: u8,
 }
 
+impl Step {
+    /// Whether it receives nothing.
+    pub fn silent(self) -> bool {
+        (self.kind, self.source) == (255, 255)
+    }
+}
+
 /// A bundle that is not refused by reading.
 #[derive(Clone, Debug)]
 pub struct Bundle {
@@ -164,10 +171,8 @@ pub fn read(bundle: &[u8], standing: &[u8]) -> Result<Bundle, Refusal> {
             return Err((14, p));
         }
     }
-    let steps = rest[..first_step]
-        .chunks(4)
-        .map(|s| Step { board: s[0], rule: s[1], kind: s[2], source: s[3] })
-        .collect();
+    let steps =
+        rest[..first_step].chunks(4).map(|s| Step { board: s[0], rule: s[1], kind: s[2], source: s[3] }).collect();
     Ok(Bundle { table, n, t, f, counting: form == 1, starts, steps })
 }
 
@@ -226,6 +231,15 @@ impl Bundle {
         self.n - self.f
     }
 
+    /// How many sources its form has: senders, or tags.
+    pub fn sources(&self) -> usize {
+        if self.counting {
+            2
+        } else {
+            self.n
+        }
+    }
+
     /// Nothing received and nothing sent.
     pub fn start(&self) -> Configuration {
         let nothing = if self.counting { Messages::Counts(0, 0) } else { Messages::Set(BTreeSet::new()) };
@@ -262,16 +276,15 @@ impl Bundle {
         if before.states[p] != rule.from {
             return Err(22);
         }
+        let (m, q) = (usize::from(step.kind), usize::from(step.source));
+        if !step.silent() && (m >= self.table.types || q >= self.sources()) {
+            return Err(23);
+        }
+        if !step.silent() && !self.in_transit(&before.received[p][m], &before.sent[m], q) {
+            return Err(24);
+        }
         let mut after = before.clone();
-        if (step.kind, step.source) != (255, 255) {
-            let (m, q) = (usize::from(step.kind), usize::from(step.source));
-            let sources = if self.counting { 2 } else { self.n };
-            if m >= self.table.types || q >= sources {
-                return Err(23);
-            }
-            if !self.in_transit(&before.received[p][m], &before.sent[m], q) {
-                return Err(24);
-            }
+        if !step.silent() {
             after.received[p][m].add(q);
         }
         for (messages, &[a, b, d]) in after.received[p].iter().zip(&rule.coefficients) {
@@ -288,6 +301,51 @@ impl Bundle {
             }
         }
         Ok(after)
+    }
+
+    /// An accepted step in the other form, where the steps before it have reached this configuration of message form.
+    pub fn translated(&self, messages: &Configuration, step: Step) -> Step {
+        if step.silent() {
+            return step;
+        }
+        if !self.counting {
+            return Step { source: u8::from(usize::from(step.source) >= self.correct()), ..step };
+        }
+        let (p, m) = (usize::from(step.board), usize::from(step.kind));
+        let lowest = (0..self.n)
+            .filter(|&q| (q >= self.correct()) == (step.source == 1))
+            .find(|&q| self.in_transit(&messages.received[p][m], &messages.sent[m], q));
+        Step { source: lowest.expect("a sender of that class") as u8, ..step }
+    }
+
+    /// A schedule that runs, in the other form.
+    fn translation(&self) -> Vec<Step> {
+        let message_form = Bundle { counting: false, ..self.clone() };
+        let mut messages = message_form.start();
+        let mut steps = Vec::new();
+        for &step in &self.steps {
+            let other = self.translated(&messages, step);
+            let message = if self.counting { other } else { step };
+            messages = message_form.step(&messages, message).expect("a step that is accepted");
+            steps.push(other);
+        }
+        steps
+    }
+
+    /// The first step that is accepted there: by board, rule, no message, then type and source.
+    fn first_in(&self, left: &Configuration) -> Option<Step> {
+        let possible = |step: &Step| self.step(left, *step).is_ok();
+        for board in 0..self.correct() as u8 {
+            for rule in 0..self.table.rules.len() as u8 {
+                let wait = Step { board, rule, kind: 255, source: 255 };
+                let messages = (0..self.table.types as u8)
+                    .flat_map(|kind| (0..self.sources() as u8).map(move |source| Step { board, rule, kind, source }));
+                if let Some(step) = std::iter::once(wait).chain(messages).find(possible) {
+                    return Some(step);
+                }
+            }
+        }
+        None
     }
 }
 
@@ -318,6 +376,36 @@ pub fn run(bundle: &[u8], standing: &[u8]) -> Outcome {
         }
     }
     Outcome { refusal: 0, place: 0, steps: bundle.steps.len(), left: Some(configuration) }
+}
+
+// The bundle and what is left of its run, if nothing is refused; `lent` is the room that 30 measures.
+fn ran(bytes: &[u8], standing: &[u8], lent: Option<usize>) -> Result<(Bundle, Configuration), Refusal> {
+    let bundle = read(bytes, standing)?;
+    if lent.map_or(false, |room| room < bytes.len()) {
+        return Err((30, 0));
+    }
+    match run(bytes, standing) {
+        Outcome { refusal: 0, left: Some(left), .. } => Ok((bundle, left)),
+        Outcome { refusal, place, .. } => Err((refusal, place)),
+    }
+}
+
+/// The bundle in the other form, for `lent` bytes of room.
+pub fn translate(bytes: &[u8], standing: &[u8], lent: usize) -> Result<Vec<u8>, Refusal> {
+    let (bundle, _) = ran(bytes, standing, Some(lent))?;
+    let mut other = bytes[..bytes.len() - 8 - 4 * bundle.steps.len()].to_vec();
+    for step in bundle.translation() {
+        other.extend([step.board, step.rule, step.kind, step.source]);
+    }
+    other.extend(&bytes[bytes.len() - 8..bytes.len() - 1]);
+    other.push(u8::from(!bundle.counting));
+    Ok(other)
+}
+
+/// The first possible step after the whole schedule, or none.
+pub fn first_step(bytes: &[u8], standing: &[u8]) -> Result<Option<Step>, Refusal> {
+    let (bundle, left) = ran(bytes, standing, None)?;
+    Ok(bundle.first_in(&left))
 }
 
 /// What the report program prints for a bundle on its standard input.

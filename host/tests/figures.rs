@@ -1,6 +1,6 @@
 //! The outline's figures, by the model.
 
-use macaroosh::model::{report, run, Messages, ECHO};
+use macaroosh::model::{first_step, report, run, translate, Messages, Step, ECHO};
 
 const W: &str = "010101 0003FFFF 0103FFFF 02030000 02040003 02050001 1400170004010100";
 const COUNTING: &str = "010101 0003FFFF 0103FFFF 02030000 02040001 02050000 1400170004010101";
@@ -31,6 +31,23 @@ fn an_echo_counts_once() {
     let twice = W.replace("02050001", "02050000");
     let outcome = run(&bytes(&twice), &ECHO);
     assert_eq!((outcome.refusal, outcome.place, outcome.steps), (24, 4, 4));
+}
+
+#[test]
+fn w_is_translated_there_and_back() {
+    let other = |hex: &str| translate(&bytes(hex), &ECHO, 31);
+    assert_eq!(other(W), Ok(bytes(COUNTING)));
+    assert_eq!(other(COUNTING), Ok(bytes(W)));
+    let swapped = W.replace("02030000", "02030001").replace("02050001", "02050000");
+    assert_eq!(other(&swapped), Ok(bytes(COUNTING)));
+    assert_eq!(translate(&bytes(W), &ECHO, 30), Err((30, 0)));
+}
+
+#[test]
+fn after_w_board_0_may_wait() {
+    let wait = Step { board: 0, rule: 4, kind: 255, source: 255 };
+    assert_eq!(first_step(&bytes(W), &ECHO), Ok(Some(wait)));
+    assert_eq!(first_step(&bytes(COUNTING), &ECHO), Ok(Some(wait)));
 }
 
 #[test]

@@ -9,10 +9,10 @@ use native.Mathlib.Omega.{arith}
 use native.Mathlib.Decide.{ℕ-discrete}
 use lib.Dec.{eqb}
 use lib.ListN.{length}
-use borrow.Author.Tests.{ne-eqb, not-true}
+use borrow.Author.Tests.{eq-eqb, ne-eqb, not-true}
 use Rattle.senders.specs.Tally.{digit}
 use Rattle.senders.specs.Set.{mem}
-use Rattle.senders.proofs.TallyLaws.{and-both}
+use Rattle.senders.proofs.TallyLaws.{and-both, and-made, least-first}
 use Rattle.senders.proofs.SetLaws.{set-laws, count-laws}
 use Rattle.fault.specs.Fault.{_if_else_}
 use Rattle.paper.specs.Paper.{Design, addTag, Step, newly, silent, Hears, Moves}
@@ -35,24 +35,24 @@ not-new false true k h = absurd (true≢false h)
 not-new false false k h = refl
 
 -- ---- the translations, with a message and without
-tagged-silent : (d : Design) (s : Step) → silent s ≡ true → tagged d s ≡ s
+pub tagged-silent : (d : Design) (s : Step) → silent s ≡ true → tagged d s ≡ s
 unfolding tagged _if_else_
 tagged-silent d s e = rw e
 
-tagged-message : (d : Design) (s : Step) → silent s ≡ false → tagged d s ≡ withSource s (tagOf (d .boards) (s .source))
+pub tagged-message : (d : Design) (s : Step) → silent s ≡ false → tagged d s ≡ withSource s (tagOf (d .boards) (s .source))
 unfolding tagged _if_else_
 tagged-message d s e = rw e
 
-lowest-silent : (d : Design) (w : List ℕ) (s : Step) → silent s ≡ true → lowest d w s ≡ s
+pub lowest-silent : (d : Design) (w : List ℕ) (s : Step) → silent s ≡ true → lowest d w s ≡ s
 unfolding lowest _if_else_
 lowest-silent d w s e = rw e
 
-lowest-message : (d : Design) (w : List ℕ) (s : Step) → silent s ≡ false → lowest d w s ≡ withSource s (lowSender d w s)
+pub lowest-message : (d : Design) (w : List ℕ) (s : Step) → silent s ≡ false → lowest d w s ≡ withSource s (lowSender d w s)
 unfolding lowest _if_else_
 lowest-message d w s e = rw e
 
 -- a type of the table is a message, whatever the source
-typed : (T : ℕ) (s : Step) (q : ℕ) → T ≤ 255 → s .type < T → silent (withSource s q) ≡ false
+pub typed : (T : ℕ) (s : Step) (q : ℕ) → T ≤ 255 → s .type < T → silent (withSource s q) ≡ false
 typed T s q k h = rw (ne-eqb (s .type) 255 (omega arith))
 
 -- a step s and the same with the source x, which is the sender's tag where there is one
@@ -282,13 +282,18 @@ module _ (d : Design) (K : Kept d) (w v : List ℕ) (X : Pictured d w v) where
             }) h)
 
     -- ---- counting form to message form
-    low-is : Arrives 1 d v s → silent s ≡ false → Sender d (s .source) (rcvdOf 0 d w (s .board) (s .type)) (sentOf 0 d w (s .type)) (lowSender d w s)
+    pub low-is : Arrives 1 d v s → silent s ≡ false → Sender d (s .source) (rcvdOf 0 d w (s .board) (s .type)) (sentOf 0 d w (s .type)) (lowSender d w s)
     unfolding lowSender
     low-is B e =
         let N = B .named e in
         let r = X .rcvds (s .board) (s .type) (B .board) (N .type) in
         let o = X .sents (s .type) (N .type) in
         lowest-sender d (s .source) _ _ (N .source) (sym (λ i. columnOf 1 d .inTransit (s .source) (r i) (o i)) ∙ B .transit e)
+
+    -- nobody below it is of that class and in transit
+    pub low-first : (q : ℕ) → q < lowSender d w s → tagOf (d .boards) q ≡ s .source → columnOf 0 d .inTransit q (rcvdOf 0 d w (s .board) (s .type)) (sentOf 0 d w (s .type)) ≡ true → ⊥
+    unfolding lowSender
+    low-first q h e t = true≢false (sym (and-made _ _ (eq-eqb _ _ e) t) ∙ least-first (d .boards + d .faulty) _ q h)
 
     record Lowered (l : Step) : Type 0 where
       agree : Agrees d w v l s

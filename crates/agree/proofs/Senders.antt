@@ -39,6 +39,13 @@ tag-below C q = go (decLt q C)
     go (yes h) = rw (tag-correct C q h) (omega arith)
     go (no h) = rw (tag-faulty C q (omega arith)) (omega arith)
 
+pub tag-grows : (C q r : ℕ) → q ≤ r → tagOf C q ≤ tagOf C r
+tag-grows C q r h = go (decLt q C)
+  where
+    go : Dec (q < C) → tagOf C q ≤ tagOf C r
+    go (yes l) = rw (tag-correct C q l) (omega arith)
+    go (no l) = rw (tag-faulty C q (omega arith), tag-faulty C r (omega arith)) (omega arith)
+
 -- ---- in transit, in message form
 module _ (C f q M S : ℕ) where
   transit-correct : q < C → passing C f .inTransit q M S ≡ missing S M q

@@ -11,21 +11,39 @@ use Rattle.senders.proofs.SetLaws.{set-laws}
 use Rattle.bundle.specs.Bundle.{tableInUse, startsOf}
 use Rattle.bundle.specs.Facts.{Read}
 use Rattle.bundle.proofs.BundleLaws.{read-by}
-use Rattle.paper.specs.Paper.{Design}
-use Rattle.agree.specs.Picture.{Kept}
+use Rattle.paper.specs.Paper.{Design, Step}
+use Rattle.paper.specs.Run.{run}
+use Rattle.agree.specs.Picture.{Kept, Pictured}
+use Rattle.agree.specs.Agreement.{RunThere, RunBack}
 use Rattle.agree.proofs.Runs.{start-pictured, forward-run, backward-run}
 use Rattle.engine.specs.Entry.{designIn}
 use Rattle.claims.specs.Agreed.{beginIn, Agreed, AllAgreed}
+use Rattle.claims.proofs.FirstAgreed.{first-agreed}
 
 not-missing : (x y : Bool) → x && not y ≡ false → x ≡ true → y ≡ true
 not-missing x true e h = refl
 not-missing true false e h = absurd (true≢false e)
 not-missing false false e h = absurd (true≢false (sym h))
 
-module _ (b standing : List ℕ) (R : Read (tableInUse b standing) b) where
-  abbrev t : List ℕ
-  t = tableInUse b standing
+-- ---- schedules
+module _ (d : Design) (K : Kept d) (w v : List ℕ) (X : Pictured d w v) where
+  there : (ss : List Step) → run 0 d w ss .refusal ≡ 0 → RunThere d w v ss
+  there ss h = forward-run d K w v ss X h
 
+  back : (ss : List Step) → run 1 d v ss .refusal ≡ 0 → RunBack d w v ss
+  back ss h = backward-run d K w v ss X h
+
+  agreed : Agreed d w v
+  agreed = record {
+    begins = X;
+    there = there;
+    back = back;
+    first-there = λ ss h i. first-agreed d K _ _ (there ss h .pictured i);
+    first-back = λ ss h i. first-agreed d K _ _ (back ss h .pictured i);
+  }
+
+-- ---- a bundle that is read: its table forgets nothing, and nobody has sent at its start
+module _ (b standing : List ℕ) (R : Read (tableInUse b standing) b) where
   abbrev d : Design
   d = designIn b standing
 
@@ -40,15 +58,8 @@ module _ (b standing : List ℕ) (R : Read (tableInUse b standing) b) where
   kept : Kept d
   kept = record { few = le-trans (R .formed .sized .few-types) (omega arith); keeps = keeps }
 
-  agreed : Agreed b standing
-  agreed =
-      let X = start-pictured d (startsOf b) (R .parted .starts-long) quiet in
-      record {
-        kept = kept;
-        begins = X;
-        there = λ ss h. forward-run d kept (beginIn 0 b standing) (beginIn 1 b standing) ss X h;
-        back = λ ss h. backward-run d kept (beginIn 0 b standing) (beginIn 1 b standing) ss X h;
-      }
+  begins : Pictured d (beginIn 0 b standing) (beginIn 1 b standing)
+  begins = start-pictured d (startsOf b) (R .parted .starts-long) quiet
 
 pub all-agreed : AllAgreed
-all-agreed b standing h = agreed b standing (read-by b standing refl h refl)
+all-agreed b standing z = let R = read-by b standing refl z refl in agreed (designIn b standing) (kept b standing R) _ _ (begins b standing R)

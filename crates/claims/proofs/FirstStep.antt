@@ -17,7 +17,7 @@ use Rattle.engine.specs.Design.{stepOf}
 use Rattle.first_step.specs.First.{Found, none, found, orElse, seek, tries, ofSources, ofTypes, ofRules, first}
 use Rattle.claims.specs.FirstStep.{EarlierMessage, noMessage, lowerType, lowerSource, Earlier, lowerBoard, lowerRule, message, FirstPossible}
 
-clash : {A : Type 0} (s : Step) → none ≡ found s → A
+pub clash : {A : Type 0} (s : Step) → none ≡ found s → A
 clash s e = let z : _≡_ {A = ℕ} 0 1 = cc in absurd (omega arith)
 
 same-found : (s t : Step) → found s ≡ found t → s ≡ t
@@ -60,6 +60,12 @@ seek-hit (suc n) g s h = go (seek n g) refl h (seek-hit n g s)
     go none e h ih = record { at = n; below = le-refl (suc n); here = h; before = seek-each n g e }
     go (found t) e h ih = let H = ih (e ∙ h) in record { at = H .at; below = omega (arith, H .below); here = H .here; before = H .before }
 
+-- ---- steps without a message
+pub silent-is : (s : Step) → silent s ≡ true → stepOf (s .board) (s .rule) 255 255 ≡ s
+silent-is s e =
+    let b = and-both (eqb (s .type) 255) (eqb (s .source) 255) e in
+    ap₂ (λ (x y : ℕ). stepOf (s .board) (s .rule) x y) (sym (eqb-true _ 255 (b .0))) (sym (eqb-true _ 255 (b .1)))
+
 module _ (k : ℕ) (d : Design) (w : List ℕ) where
   abbrev n : ℕ
   n = columnOf k d .sources
@@ -78,11 +84,6 @@ module _ (k : ℕ) (d : Design) (w : List ℕ) where
       go false e h = clash s h
 
   -- ---- an accepted step is seen at its board and rule
-  silent-is : (s : Step) → silent s ≡ true → stepOf (s .board) (s .rule) 255 255 ≡ s
-  silent-is s e =
-      let b = and-both (eqb (s .type) 255) (eqb (s .source) 255) e in
-      ap₂ (λ (x y : ℕ). stepOf (s .board) (s .rule) x y) (sym (eqb-true _ 255 (b .0))) (sym (eqb-true _ 255 (b .1)))
-
   rule-sees : (s : Step) → stepFault k d w s ≡ 0 → ofTypes n d w k (s .board) (s .rule) ≡ none → ⊥
   rule-sees s z h = go (silent s) refl
     where

@@ -1,11 +1,12 @@
 -- The first possible step: none exactly when no step is accepted; what is found is accepted, and nothing earlier is.
--- Proofs: proofs/FirstStep.antt.
+-- And in both forms it is the same step, translated. Proofs: proofs/FirstStep.antt, proofs/FirstAgreed.antt.
 use mathlib.Core.Path.{_≡_}
 use mathlib.Core.Bool.{true, false}
 use mathlib.Core.List.{List}
 use Prim.Native.Nat.{ℕ, _<_}
 use Rattle.paper.specs.Paper.{Design, Step, silent}
 use Rattle.paper.specs.Step.{stepFault}
+use Rattle.agree.specs.Translation.{tagged, lowest}
 use Rattle.first_step.specs.First.{none, found, first}
 
 -- ---- the outline's order: by board, then rule, then no message before type 0, 1, .. and source 0, 1, .. within a type
@@ -26,3 +27,10 @@ pub record FirstPossible (k : ℕ) (d : Design) (w : List ℕ) : Type 0 where
   -- the found one is accepted, and no earlier one is
   pub accepted : (s : Step) → first k d w ≡ found s → stepFault k d w s ≡ 0
   pub earliest : (s : Step) → first k d w ≡ found s → (t : Step) → Earlier t s → stepFault k d w t ≡ 0 → ⊥
+
+-- ---- words of sets w and their picture v: the first step of one form is that of the other, translated, or both have none
+pub record FirstAgreed (d : Design) (w v : List ℕ) : Type 0 where
+  pub there : (s : Step) → first 0 d w ≡ found s → first 1 d v ≡ found (tagged d s)
+  pub back : (s : Step) → first 1 d v ≡ found s → first 0 d w ≡ found (lowest d w s)
+  pub none-there : first 0 d w ≡ none → first 1 d v ≡ none
+  pub none-back : first 1 d v ≡ none → first 0 d w ≡ none
