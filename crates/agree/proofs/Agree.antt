@@ -20,7 +20,7 @@ use Rattle.paper.specs.Words.{size, state}
 use Rattle.paper.specs.Form.{wide}
 use Rattle.paper.specs.Step.{columnOf, rcvdOf, sentOf, view, countOf, heard, stepped, stepFault}
 use Rattle.paper.proofs.StepLaws.{Arrives, accepted, not-refused, count-heard, length-stepped, step-moves}
-use Rattle.agree.specs.Translation.{tagOf, withSource, tagged, lowSender, lowest}
+use Rattle.agree.specs.Translation.{tagOf, withSource, tagBy, tagged, lowSender, lowest}
 use Rattle.agree.specs.Picture.{Kept, counted, countedSent, Pictured}
 use Rattle.agree.specs.Agreement.{StepThere, StepBack}
 use Rattle.agree.proofs.Senders.{tag-below, transit-new, transit-sent, counted-card, counted-add, transit-there, Sender, lowest-sender}
@@ -36,11 +36,11 @@ not-new false false k h = refl
 
 -- ---- the translations, with a message and without
 pub tagged-silent : (d : Design) (s : Step) → silent s ≡ true → tagged d s ≡ s
-unfolding tagged _if_else_
+unfolding tagBy _if_else_
 tagged-silent d s e = rw e
 
 pub tagged-message : (d : Design) (s : Step) → silent s ≡ false → tagged d s ≡ withSource s (tagOf (d .boards) (s .source))
-unfolding tagged _if_else_
+unfolding tagBy _if_else_
 tagged-message d s e = rw e
 
 pub lowest-silent : (d : Design) (w : List ℕ) (s : Step) → silent s ≡ true → lowest d w s ≡ s

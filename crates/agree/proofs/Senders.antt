@@ -48,10 +48,10 @@ tag-grows C q r h = go (decLt q C)
 
 -- ---- in transit, in message form
 module _ (C f q M S : ℕ) where
-  transit-correct : q < C → passing C f .inTransit q M S ≡ missing S M q
+  pub transit-correct : q < C → passing C f .inTransit q M S ≡ missing S M q
   transit-correct h = rw (lt-ltb q C h, lt-leb C q h, or-false)
 
-  transit-faulty : C ≤ q → passing C f .inTransit q M S ≡ not (mem M q)
+  pub transit-faulty : C ≤ q → passing C f .inTransit q M S ≡ not (mem M q)
   transit-faulty h = rw (le-ltb q C h, le-leb C q h)
 
   -- who is in transit was not received

@@ -17,8 +17,11 @@ abbrev pub withSource : Step → ℕ → Step
 withSource s q = record { board = s .board; rule = s .rule; type = s .type; source = q }
 
 -- ---- into counting form: the sender becomes its tag
-unfoldable pub tagged : Design → Step → Step
-tagged d s = s if silent s else withSource s (tagOf (d .boards) (s .source))
+unfoldable pub tagBy : ℕ → Step → Step
+tagBy C s = s if silent s else withSource s (tagOf C (s .source))
+
+abbrev pub tagged : Design → Step → Step
+tagged d s = tagBy (d .boards) s
 
 -- ---- into message form: the tag becomes the lowest-numbered sender of that class in transit to the board, in the words w
 unfoldable pub lowSender : Design → List ℕ → Step → ℕ

@@ -5,6 +5,7 @@ use mathlib.Core.List.{List}
 use Prim.Native.Nat.{ℕ, _+_, _-_, _*_, _%_, _≤_, _<_}
 use native.Mathlib.Nat.{mul-le-mul-right, one-mul}
 use native.Mathlib.Omega.{arith}
+use native.Mathlib.Decide.{ℕ-discrete}
 use borrow.Author.Tests.{ltb-false, leb-false, not-false, eq-eqb, ne-eqb, le-leb, lt-leb}
 use lib.ListN.{length, take, drop, length-drop}
 use lib.Seq.{length-take-le}
@@ -12,13 +13,13 @@ use Rattle.fault.specs.declared.Verdict.{Verdict}
 use Rattle.fault.specs.Bytes.{byteAt}
 use Rattle.fault.specs.Tests.{_over_, _atLeast_, _atMost_, _differs_, outside}
 use Rattle.fault.specs.Fault.{refused, firstFault}
-use Rattle.fault.proofs.FaultLaws.{if-yes, if-no, if-passed, then-clean, first-clean, Clean}
+use Rattle.fault.proofs.FaultLaws.{if-yes, if-no, if-passed, then-clean, first-clean, Clean, if-most, Within, check-within, then-within, first-within}
 use Rattle.fault.proofs.TestLaws.{or-none, inside, same}
 use Rattle.table.specs.Table.{statesOf, factorOf, initialOf}
 use Rattle.table.specs.Refusals.{tableFault}
 use Rattle.table.specs.Facts.{Sized}
-use Rattle.table.proofs.TableLaws.{well-formed}
-use Rattle.bundle.specs.Bundle.{stepDistance, startDistance, nOf, tOf, fOf, correctOf, frontLength, tableInUse, startsOf, stepsOf}
+use Rattle.table.proofs.TableLaws.{well-formed, table-within, table-short}
+use Rattle.bundle.specs.Bundle.{stepDistance, startDistance, nOf, tOf, fOf, correctOf, frontLength, tableInUse, startsOf, stepsAt, stepsOf}
 use Rattle.bundle.specs.Refusals.{noTrailer, outOfBundle, notAdmitted, stepsOff, notInitial, startFault, scheduleFault, faultWith, readFault}
 use Rattle.bundle.specs.Facts.{Trailed, Admitted, Parted, Begins, Read}
 
@@ -36,9 +37,9 @@ pub starts-are : {a x : ℕ} (b : List ℕ) → a ≡ frontLength b → x ≡ co
 unfolding startsOf
 starts-are {a} {x} b e f = let z : a + x - a ≡ correctOf b = omega arith in rw (z, e)
 
-pub steps-are : {a x y : ℕ} (b : List ℕ) → a ≡ frontLength b → x ≡ correctOf b → y ≡ stepDistance b → take (a + x + y - (a + x)) (drop (a + x) b) ≡ stepsOf b
+pub steps-are : {a y : ℕ} (b : List ℕ) → a ≡ stepsAt b → y ≡ stepDistance b → take (a + y - a) (drop a b) ≡ stepsOf b
 unfolding stepsOf
-steps-are {a} {x} {y} b e f g = let z : a + x + y - (a + x) ≡ stepDistance b = omega arith in rw (z, e, f)
+steps-are {a} {y} b e g = let z : a + y - a ≡ stepDistance b = omega arith in rw (z, e)
 
 -- ---- each test that says no
 pub long-by : {a : Bool} (b : List ℕ) → a ≡ noTrailer b → a ≡ false → 8 ≤ length b
@@ -69,7 +70,7 @@ parted b u e f =
       few-steps = ltb-false 16384 _ (q .1);
       starts-first = s;
       starts-inside = omega (arith, s, u .inside);
-      steps-inside = omega (arith, s, u .inside);
+      steps-last = omega (arith, s, u .inside);
       starts-long = length-take-le (correctOf b) _ (rw length-drop (omega (arith, s, u .inside)));
       steps-long = length-take-le (stepDistance b) _ (rw length-drop (omega (arith, s, u .inside)));
     }
@@ -143,3 +144,30 @@ read table b h =
 -- for a caller of `read_fault` and `table_in_use`
 pub read-by : {v : Verdict} {t : List ℕ} (b st : List ℕ) → v ≡ readFault b st → v .number ≡ 0 → t ≡ tableInUse b st → Read t b
 read-by {v} {t} b st e z q = rw q (read (tableInUse b st) b (ap (λ (x : Verdict). x .number) (sym e) ∙ z))
+
+-- ---- what reading refuses is at most 14, its place at most 64
+module _ (table b : List ℕ) where
+  start-most : (p : ℕ) → startFault table (startsOf b) p ≤ 14
+  unfolding startFault
+  start-most p = if-most _ (omega arith) (omega arith)
+
+  schedule-within : Within 14 64 (scheduleFault table b)
+  unfolding scheduleFault
+  schedule-within =
+      check-within _ (omega arith) (λ h. check-within _ (omega arith) (λ _.
+      first-within 14 64 (startFault table (startsOf b)) start-most (correctOf b) (omega (arith, admitted (factorOf table) b h .few-boards))))
+
+  pub read-within : Within 14 64 (faultWith table b)
+  unfolding faultWith
+  read-within = check-within _ (omega arith) (λ _. check-within _ (omega arith) (λ _. then-within (table-within table) schedule-within))
+
+-- ---- a bundle that is read has at most 17,392 bytes: a table's 936, 64 starts, 4,096 steps of 4, a trailer of 8
+pub read-short : (b st : List ℕ) → Read (tableInUse b st) b → length b ≤ 17392
+unfolding frontLength
+read-short b st R = omega (arith, front (ℕ-discrete (frontLength b) 0), R .trailed .inside, R .parted .starts-first, R .parted .few-steps, R .admitted .few-boards)
+  where
+    front : Dec (frontLength b ≡ 0) → frontLength b ≤ 936
+    front (yes z) = omega arith
+    front (no n) =
+        let e : length (take (frontLength b) b) ≡ frontLength b = length-take-le (frontLength b) b (omega arith) in
+        omega (arith, e, ap length (use-front b st refl n), table-short (tableInUse b st) (R .formed .sized))

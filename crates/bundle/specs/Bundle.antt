@@ -43,6 +43,10 @@ tableInUse b standing = standing if eqb (frontLength b) 0 else take (frontLength
 unfoldable pub startsOf : List ℕ → List ℕ
 startsOf b = take (correctOf b) (drop (frontLength b) b)
 
+-- where the first step stands
+abbrev pub stepsAt : List ℕ → ℕ
+stepsAt b = frontLength b + correctOf b
+
 -- the step records, 4 bytes each: board, rule, type, source
 unfoldable pub stepsOf : List ℕ → List ℕ
-stepsOf b = take (stepDistance b) (drop (frontLength b + correctOf b) b)
+stepsOf b = take (stepDistance b) (drop (stepsAt b) b)

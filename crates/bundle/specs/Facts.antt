@@ -4,10 +4,10 @@ use mathlib.Core.Bool.{true}
 use mathlib.Core.List.{List}
 use Prim.Native.Nat.{ℕ, _+_, _*_, _%_, _≤_, _<_}
 use lib.ListN.{length}
-use Rattle.fault.specs.Bytes.{byteAt}
+use Rattle.fault.specs.Bytes.{byteAt, trailerOf}
 use Rattle.table.specs.Table.{statesOf, factorOf, initialOf}
 use Rattle.table.specs.Facts.{WellFormed}
-use Rattle.bundle.specs.Bundle.{stepDistance, startDistance, nOf, tOf, fOf, formOf, correctOf, frontLength, startsOf, stepsOf}
+use Rattle.bundle.specs.Bundle.{stepDistance, startDistance, nOf, tOf, fOf, formOf, correctOf, frontLength, startsOf, stepsAt, stepsOf}
 
 -- its trailer lies inside (refusals 10 and 11)
 pub record Trailed (b : List ℕ) : Type 0 where
@@ -28,7 +28,7 @@ pub record Parted (b : List ℕ) : Type 0 where
   pub few-steps : stepDistance b ≤ 16384
   pub starts-first : startDistance b ≡ stepDistance b + correctOf b
   pub starts-inside : frontLength b + correctOf b ≤ length b
-  pub steps-inside : frontLength b + correctOf b + stepDistance b ≤ length b
+  pub steps-last : stepsAt b + stepDistance b ≡ trailerOf b
   pub starts-long : length (startsOf b) ≡ correctOf b
   pub steps-long : length (stepsOf b) ≡ stepDistance b
 

@@ -1,10 +1,11 @@
 // The whole bundle: the table in use, refusals 10 to 14 with the table's own among them, and the views that stepping needs.
 ghost use mathlib.Core.Path.{_≡_};
-ghost use Prim.Native.Nat.{_≤_, _<_};
+ghost use Prim.Native.Nat.{_+_, _≤_, _<_};
 ghost use lib.ListN.{length};
+ghost use Rattle.fault.specs.Bytes.{trailerOf};
 ghost use Rattle.fault.specs.Fault.{firstFault};
 ghost use Rattle.table.specs.Facts.{Sized};
-ghost use Rattle.bundle.specs.Bundle.{stepDistance, startDistance, nOf, tOf, fOf, formOf, correctOf, frontLength, tableInUse, startsOf, stepsOf};
+ghost use Rattle.bundle.specs.Bundle.{stepDistance, startDistance, nOf, tOf, fOf, formOf, correctOf, frontLength, tableInUse, startsOf, stepsAt, stepsOf};
 ghost use Rattle.bundle.specs.Refusals.{noTrailer, outOfBundle, notAdmitted, stepsOff, notInitial, startFault, scheduleFault, faultWith, readFault};
 ghost use Rattle.bundle.specs.Facts.{Trailed, Parted};
 use fault::Verdict;
@@ -135,9 +136,17 @@ pub fn steps<'a>(b: &'a [u8]) -> &'a [u8]
     requires { ⌜ (Trailed (now b)) × (Parted (now b)) ⌝ }
     ensures { λ r. ⌜ now r ≡ stepsOf (now (b .entry)) ⌝ }
 {
-    let at = front(b) + correct(b);
+    let at = steps_at(b);
     let end = at + step_distance(b);
     &b[at..end]
+}
+
+// Where the first of them stands.
+pub fn steps_at(b: &[u8]) -> usize
+    requires { ⌜ (Trailed (now b)) × (Parted (now b)) ⌝ }
+    ensures { λ r. ⌜ (r ≡ stepsAt (now (b .entry))) × (r + stepDistance (now (b .entry)) ≡ trailerOf (now (b .entry))) ⌝ }
+{
+    front(b) + correct(b)
 }
 
 // ---- the refusals

@@ -1,6 +1,6 @@
 -- The outline's figures that are proved (marked P), as one list of cases and one claim: that each of them holds.
 use mathlib.Core.Path.{_≡_}
-use mathlib.Core.List.{List, [], _∷_, _++_, map}
+use mathlib.Core.List.{List, [], _∷_, _++_}
 use Prim.Native.Nat.{ℕ, _+_}
 use lib.ListN.{length, replicate}
 use lib.IntN.{ℤ, pos, negsuc}
@@ -9,12 +9,11 @@ use Rattle.fault.specs.Fault.{verdict}
 use Rattle.table.specs.Table.{coefficientsAt}
 use Rattle.bundle.specs.Refusals.{readFault}
 use Rattle.engine.specs.Design.{thresholdAt}
-use Rattle.agree.specs.Translation.{tagged, lowAll}
-use Rattle.engine.specs.Entry.{designIn, scheduleOf, runAnswer, runWords}
+use Rattle.engine.specs.Entry.{runAnswer, runWords}
+use Rattle.translate.specs.Entry.{translateAnswer, translateBytes}
 use Rattle.first_step.specs.declared.First.{First}
 use Rattle.first_step.specs.Entry.{firstAnswer}
 use Rattle.echo.specs.Echo.{echo, fiveSteps, W, WCounting}
-use Rattle.claims.specs.Agreed.{beginIn}
 
 pub data Case : Type 0 where
   -- coefficients a, b, d at n and t come to the threshold z
@@ -25,10 +24,8 @@ pub data Case : Type 0 where
   reads : List ℕ → List ℕ → ℕ → ℕ → Case
   -- a run of a bundle beside a standing table answers refusal, place and steps, and leaves these words in as many lent ones
   runs : List ℕ → List ℕ → ℕ → ℕ → ℕ → List ℕ → Case
-  -- the schedule of a bundle in message form, beside a standing table, is in counting form that of another bundle
-  counts : List ℕ → List ℕ → List ℕ → Case
-  -- and the other way round, with the lowest senders
-  names : List ℕ → List ℕ → List ℕ → Case
+  -- a translation of a bundle beside a standing table answers refusal, place and bytes written, and leaves these bytes in as many lent ones
+  translates : List ℕ → List ℕ → ℕ → ℕ → ℕ → List ℕ → Case
   -- the first-step question on a bundle beside a standing table has this answer
   firstOf : List ℕ → List ℕ → First → Case
 
@@ -38,8 +35,8 @@ Holds (asks table r m n t z) = thresholdAt table (coefficientsAt table r m) n t 
 Holds (reads b standing k p) = readFault b standing ≡ verdict k p
 Holds (runs b standing k p i words) =
     (runAnswer b standing (length words) ≡ record { refusal = k; place = p; count = i }) × (runWords b standing (replicate (length words) 9) ≡ words)
-Holds (counts b standing b′) = map (tagged (designIn b standing)) (scheduleOf b) ≡ scheduleOf b′
-Holds (names b standing b′) = lowAll (designIn b standing) (beginIn 0 b standing) (scheduleOf b) ≡ scheduleOf b′
+Holds (translates b standing k p n bytes) =
+    (translateAnswer b standing (length bytes) ≡ record { refusal = k; place = p; count = n }) × (translateBytes b standing (replicate (length bytes) 9) ≡ bytes)
 Holds (firstOf b standing answer) = firstAnswer b standing ≡ answer
 
 abbrev pub Every : List Case → Type 0
@@ -66,9 +63,13 @@ cases =
     -- P5: W with last source 0, whose echo board 2 has heard
     runs (fiveSteps 0 3 0 0) echo 24 4 4 (2 ∷ 2 ∷ 2 ∷ 0 ∷ 0 ∷ 9 ∷ 7 ∷ []) ∷
     -- P6: W's counting form; P7: so is that of W with senders 1, 3, 0 in its receipts, and it comes back as W itself
-    counts W echo WCounting ∷
-    counts (fiveSteps 1 3 0 0) echo WCounting ∷
-    names WCounting echo W ∷
+    translates W echo 0 0 31 WCounting ∷
+    translates (fiveSteps 1 3 0 0) echo 0 0 31 WCounting ∷
+    translates WCounting echo 0 0 31 W ∷
+    -- a byte past the bundle stays; with a byte too few, and for P5's refused step, all stay
+    translates W echo 0 0 31 (WCounting ++ (9 ∷ [])) ∷
+    translates W echo 30 0 0 (replicate 30 9) ∷
+    translates (fiveSteps 0 3 0 0) echo 24 4 0 (replicate 31 9) ∷
     -- P8: admitted n, t, f at k = 3
     reads (schedule (0 ∷ 0 ∷ 0 ∷ []) [] 3 1 0) echo 12 0 ∷
     reads (schedule (0 ∷ 0 ∷ []) [] 4 1 2) echo 12 0 ∷

@@ -2,3 +2,4 @@ pub mod Figures
 pub mod Demand2
 pub mod Agreed
 pub mod FirstStep
+pub mod Demand3

@@ -9,7 +9,7 @@ use lib.ListN.{length, getD, drop}
 use borrow.Author.Tests.{eq-eqb, ne-eqb, lt-ltb, le-ltb}
 use Rattle.fault.specs.declared.Verdict.{Verdict}
 use Rattle.fault.specs.Tests.{_below_, _differs_}
-use Rattle.fault.specs.Fault.{refused}
+use Rattle.fault.specs.Fault.{refused, _if_else_}
 use Rattle.fault.proofs.FaultLaws.{if-yes, if-no}
 use Rattle.bundle.specs.Bundle.{tableInUse, correctOf, startsOf, stepsOf}
 use Rattle.bundle.specs.Refusals.{readFault}
@@ -72,6 +72,16 @@ ran-holds {s} {w} t b R e f =
     let n : length (stepsIn (stepsOf b)) ≡ length (stepsOf b) / 4 = length-steps (length (stepsOf b) / 4) (stepsOf b) (omega (arith, R .parted .whole-steps)) in
     let H = run-holds z t (suits t b R refl) (stepsIn (stepsOf b)) 16 (start (z .types) (wide (z .form)) (startsOf b)) (omega arith) (start-holds t b R refl refl refl) in
     subst⁻¹ (λ (x : Sizes). Holds x 1000000 w) e (subst⁻¹ (Holds z 1000000) f (holds-more z (16 + 5 * length (stepsIn (stepsOf b))) 1000000 _ (omega (arith, R .parted .few-steps)) H))
+
+-- ---- the answer of a run, field by field
+module _ {a : Answer} (t b : List ℕ) (e : a ≡ ranAnswer (ranWith t b)) where
+  pub answer-number : a .refusal ≡ ranWith t b .refusal
+  unfolding ranAnswer
+  answer-number = ap (λ (x : Answer). x .refusal) e
+
+  pub answer-place : (a .refusal ≡ 0 → ⊥) → a .place ≡ ranWith t b .accepted
+  unfolding ranAnswer _if_else_
+  answer-place n = ap (λ (x : Answer). x .place) e ∙ rw (ne-eqb (ranWith t b .refusal) 0 (λ z. n (answer-number ∙ z)))
 
 -- ---- the entry
 pub record Entered (b standing lent : List ℕ) (a : Answer) (u : List ℕ) : Type 0 where

@@ -4,3 +4,4 @@ pub mod StepLaws
 pub mod KeepLaws
 pub mod RunLaws
 pub mod EntryLaws
+pub mod BoundLaws

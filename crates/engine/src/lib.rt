@@ -53,7 +53,8 @@ pub fn run<'a>(bundle: &'a [u8], standing: &'a [u8], lent: &mut [u64]) -> Answer
     run_in(table, bundle, s, &mut lent[..need])
 }
 
-fn answered(refusal: usize, place: usize, count: usize) -> Answer
+// The answer of three numbers.
+pub fn answered(refusal: usize, place: usize, count: usize) -> Answer
     ensures { λ r. ⌜ r ≡ record { refusal = refusal; place = place; count = count } ⌝ }
 {
     Answer {
@@ -89,7 +90,7 @@ pub fn run_in(table: &[u8], bundle: &[u8], s: Sizes, w: &mut [u64]) -> Answer
 }
 
 // The first configuration.
-fn begin(starts: &[u8], s: Sizes, w: &mut [u64])
+pub fn begin(starts: &[u8], s: Sizes, w: &mut [u64])
     requires { ⌜ (length (now starts) ≡ s .correct) × (length (now w) ≡ roomOf s) ⌝ }
     ensures { λ r. ⌜ now (w .exit) ≡ start (s .types) (forms.wide (s .form)) (now (starts .entry)) ⌝ }
 {

@@ -96,7 +96,7 @@ fn malformed(s: Sizes, m: usize, q: usize) -> bool
 }
 
 // Type and source 255: no message.
-fn silent(m: usize, q: usize) -> bool
+pub fn silent(m: usize, q: usize) -> bool
     ensures { λ b. ⌜ b ≡ silentBytes m q ⌝ }
 {
     (m == 255) & (q == 255)

@@ -20,7 +20,7 @@ pub fn room(s: Sizes) -> usize
 }
 
 // Where the sent word of type m stands.
-fn sent(s: Sizes, m: usize) -> usize
+pub fn sent(s: Sizes, m: usize) -> usize
     requires { ⌜ (Bounded s) × (m ≤ s .types) ⌝ }
     ensures { λ r. ⌜ (r ≡ sentAt (s .correct) (s .types) (forms.wide (s .form)) m) × (r ≤ 576 + m) ⌝ }
 {
@@ -28,7 +28,7 @@ fn sent(s: Sizes, m: usize) -> usize
 }
 
 // Where the cell of board p for type m begins.
-fn cell(s: Sizes, p: usize, m: usize) -> usize
+pub fn cell(s: Sizes, p: usize, m: usize) -> usize
     requires { ⌜ (Bounded s) × (At s p m) ⌝ }
     ensures { λ r. ⌜ (r ≡ cellAt (s .correct) (s .types) (forms.wide (s .form)) p m 0) × (r + forms.wide (s .form) ≤ roomOf s) × (r ≤ 576) ⌝ }
 {

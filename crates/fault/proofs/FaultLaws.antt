@@ -1,6 +1,6 @@
--- The laws of `_if_else_`, `_▹_` and `firstFault`: how code makes them, and what no refusal tells.
+-- The laws of `_if_else_`, `_▹_` and `firstFault`: how code makes them, what no refusal tells, and the bounds that they keep.
 use mathlib.Core.Path.{_≡_, refl, sym, ap, _∙_}
-use mathlib.Core.Bool.{Bool, true, false}
+use mathlib.Core.Bool.{Bool, true, false, cond}
 use Prim.Native.Nat.{ℕ, zero, suc, _+_, _≤_, _<_}
 use native.Mathlib.Numerals.{add-one}
 use native.Mathlib.Omega.{arith}
@@ -8,7 +8,7 @@ use native.Mathlib.Decide.{decLt, ℕ-discrete}
 use lib.Dec.{eqb}
 use borrow.Author.Tests.{eq-eqb, ne-eqb, eqb-true}
 use Rattle.fault.specs.declared.Verdict.{Verdict}
-use Rattle.fault.specs.Fault.{verdict, fine, _if_else_, _▹_, firstFault}
+use Rattle.fault.specs.Fault.{verdict, fine, refused, _if_else_, _▹_, firstFault}
 
 -- ---- one check: b is the answer that the code has in hand
 pub if-yes : {A : Type 0} {v x : A} {b t : Bool} (rest : A) → v ≡ x → b ≡ t → b ≡ true → v ≡ (x if t else rest)
@@ -97,3 +97,36 @@ module _ (f : ℕ → ℕ) where
       here : (b : Bool) → eqb (f n) 0 ≡ b → Clean (fine if b else verdict (f n) n) → n ≡ i → f i ≡ 0
       here true e q r = rw (← r) (eqb-true (f n) 0 e)
       here false e q r = rw (← r) q
+
+-- ---- what both ways out of a check have, the check has
+pub if-keeps : {A : Type 0} (P : A → Type 0) (x : A) (t : Bool) (rest : A) → (t ≡ true → P x) → (t ≡ false → P rest) → P (x if t else rest)
+unfolding _if_else_
+if-keeps P x true rest a b = a refl
+if-keeps P x false rest a b = b refl
+
+pub if-most : {k x rest : ℕ} (t : Bool) → x ≤ k → rest ≤ k → (x if t else rest) ≤ k
+if-most {k} {x} {rest} t a b = if-keeps (λ (y : ℕ). y ≤ k) x t rest (λ _. a) (λ _. b)
+
+-- a verdict's number is at most k, its place at most p
+pub record Within (k p : ℕ) (v : Verdict) : Type 0 where
+  pub number : v .number ≤ k
+  pub place : v .place ≤ p
+
+refused-within : (k p n : ℕ) → n ≤ k → Within k p (refused n)
+refused-within k p n h = record { number = h; place = omega arith }
+
+pub check-within : {k p n : ℕ} {rest : Verdict} (t : Bool) → n ≤ k → (t ≡ false → Within k p rest) → Within k p (refused n if t else rest)
+check-within {k} {p} {n} {rest} t h f = if-keeps (Within k p) (refused n) t rest (λ _. refused-within k p n h) f
+
+pub then-within : {k p : ℕ} {v w : Verdict} → Within k p v → Within k p w → Within k p (v ▹ w)
+unfolding _▹_
+then-within {k} {p} {v} {w} a b = go (eqb (v .number) 0)
+  where
+    go : (t : Bool) → Within k p (cond t w v)
+    go true = b
+    go false = a
+
+pub first-within : (k p : ℕ) (f : ℕ → ℕ) → ((i : ℕ) → f i ≤ k) → (n : ℕ) → n ≤ p → Within k p (firstFault f n)
+unfolding firstFault
+first-within k p f h zero l = refused-within k p 0 (omega arith)
+first-within k p f h (suc n) l = then-within (first-within k p f h n (omega arith)) (check-within _ (omega arith) (λ _. record { number = h n; place = omega arith }))

@@ -1,2 +1,3 @@
 pub mod SeekLaws
 pub mod EntryLaws
+pub mod BoundLaws

@@ -5,13 +5,16 @@ use Prim.Native.Nat.{ℕ, zero, suc, _+_, _*_, _≤_, _<_}
 use native.Mathlib.Nat.{not-suc-le-zero, le-of-suc-le-suc, add-zero}
 use native.Mathlib.Numerals.{add-one}
 use native.Mathlib.Omega.{arith}
+use lib.Dec.{eqb}
 use lib.ListN.{length, getD, take, drop}
 use lib.Seq.{drop-cons}
 use borrow.Author.Tests.{eq-eqb, ne-eqb}
 use Rattle.fault.specs.Fault.{_if_else_}
+use Rattle.fault.proofs.FaultLaws.{if-keeps}
 use Rattle.paper.specs.Paper.{Design, Step}
 use Rattle.paper.specs.Step.{stepFault, stepped}
 use Rattle.paper.specs.Run.{stepsIn, Ran, oneMore, run, noStep, after}
+use Rattle.paper.proofs.StepLaws.{step-most}
 
 -- ---- the steps that bytes hold
 pub length-steps : (n : ℕ) (bs : List ℕ) → length bs ≡ n * 4 → length (stepsIn bs) ≡ n
@@ -104,3 +107,16 @@ module _ (k : ℕ) (d : Design) (w₀ : List ℕ) (ss : List Step) where
     pub running-ends : length ss ≤ i → run k d w₀ ss ≡ ranTo i 0 w
     unfolding run
     running-ends h = S ∙ ap (λ (r : List Step). on i (run k d w r)) (drop-none ss i h) ∙ same-ran _ _ (add-zero i)
+
+-- ---- bounds: at most n steps are accepted, and no refusal is over 25
+pub record RanWithin (n : ℕ) (r : Ran) : Type 0 where
+  pub accepted : r .accepted ≤ n
+  pub refusal : r .refusal ≤ 25
+
+pub run-within : (k : ℕ) (d : Design) (w : List ℕ) (ss : List Step) → RanWithin (length ss) (run k d w ss)
+unfolding run
+run-within k d w [] = record { accepted = omega arith; refusal = omega arith }
+run-within k d w (s ∷ ss) =
+    let R = run-within k d (stepped k d w s) ss in
+    if-keeps (RanWithin (length (s ∷ ss))) _ (eqb (stepFault k d w s) 0) _ (λ _. record { accepted = omega (arith, R .accepted); refusal = R .refusal })
+    (λ _. record { accepted = omega arith; refusal = step-most k d w s })

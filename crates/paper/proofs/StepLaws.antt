@@ -3,7 +3,7 @@ use mathlib.Core.Path.{_≡_, refl, sym, ap, _∙_, subst⁻¹}
 use mathlib.Core.Logic.{_≢_}
 use mathlib.Core.Bool.{Bool, true, false, not, _&&_, _||_, true≢false}
 use mathlib.Core.List.{List}
-use Prim.Native.Nat.{ℕ, suc, _+_, _<_}
+use Prim.Native.Nat.{ℕ, suc, _+_, _≤_, _<_}
 use native.Mathlib.Nat.{le-refl}
 use native.Mathlib.Decide.{ℕ-discrete}
 use native.Mathlib.Omega.{arith}
@@ -14,7 +14,7 @@ use Rattle.senders.specs.Tally.{digit}
 use Rattle.senders.proofs.TallyLaws.{every-each, every-made}
 use Rattle.fault.specs.Tests.{_atLeast_}
 use Rattle.fault.specs.Fault.{_if_else_}
-use Rattle.fault.proofs.FaultLaws.{if-passed, if-no}
+use Rattle.fault.proofs.FaultLaws.{if-passed, if-no, if-most}
 use Rattle.fault.proofs.TestLaws.{or-none, same}
 use Rattle.paper.specs.Paper.{Design, Interp, Conf, Step, newly, silent, Hears, Moves, Same}
 use Rattle.paper.specs.Words.{size, state, sent, hear, tell}
@@ -101,6 +101,10 @@ module _ (k : ℕ) (d : Design) (w : List ℕ) (s : Step) where
       (if-no 23 refl (unless-made (silent s) _ (λ e. or-none-made _ _ (lt-leb _ _ (B .named e .type)) (lt-leb _ _ (B .named e .source))))
       (if-no 24 refl (unless-made (silent s) _ (λ e. ap not (B .transit e)))
       (if-no 25 refl (ap not (every-made (d .types) _ (A .met))) refl))))))
+
+  pub step-most : stepFault k d w s ≤ 25
+  unfolding stepFault
+  step-most = if-most _ (omega arith) (if-most _ (omega arith) (if-most _ (omega arith) (if-most _ (omega arith) (if-most _ (omega arith) (if-most _ (omega arith) (omega arith))))))
 
   -- ---- the receipt
   pub heard-nothing : silent s ≡ true → heard k d w s ≡ w

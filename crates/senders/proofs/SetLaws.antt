@@ -1,7 +1,7 @@
 -- Laws of membership, and the counts' laws that specs/Laws.antt states.
 use mathlib.Core.Path.{_≡_, refl, sym, ap, _∙_, subst}
 use mathlib.Core.Logic.{_≢_}
-use mathlib.Core.Bool.{true, not}
+use mathlib.Core.Bool.{true, false, not}
 use Prim.Native.Nat.{ℕ, zero, suc, _+_, _-_, _/_, _%_, _^_, _<_}
 use native.Mathlib.Nat.{mod-lt, zero-div, div-self, div-eq-of-lt, div-one, mul-mod-left, pow-suc}
 use native.Mathlib.Numerals.{one-add}
@@ -27,6 +27,10 @@ mem-suc s i = ap (λ (x : ℕ). eqb (x % 2) 1) (sym (shr-shr s 1 i ∙ ap (λ (x
 pub mem-shift : (s c i : ℕ) → mem s (c + i) ≡ mem (s / 2 ^ c) i
 unfolding mem
 mem-shift s c i = ap (λ (x : ℕ). eqb (x % 2) 1) (sym (shr-shr s c i))
+
+pub mem-high : (s q : ℕ) → s < 2 ^ q → mem s q ≡ false
+unfolding mem
+mem-high s q h = ap (λ (x : ℕ). eqb (x % 2) 1) (div-eq-of-lt h)
 
 bit-pow-same : (q : ℕ) → 2 ^ q / 2 ^ q % 2 ≡ 1
 bit-pow-same q = ap (λ (x : ℕ). x % 2) (div-self (pow-pos q))

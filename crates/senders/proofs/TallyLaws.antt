@@ -229,6 +229,15 @@ least-first (suc k) P i h = go (P 0) refl i h (λ j. least-first k (λ i. P (suc
     go false e zero h ih = e
     go false e (suc i) h ih = ih i (le-of-suc-le-suc h)
 
+pub least-le : (k : ℕ) (P : ℕ → Bool) → least k P ≤ k
+unfolding least
+least-le zero P = omega arith
+least-le (suc k) P = go (P 0) (least-le k (λ i. P (suc i)))
+  where
+    go : (b : Bool) → least k (λ i. P (suc i)) ≤ k → leastIf b (least k (λ i. P (suc i))) ≤ suc k
+    go true h = omega arith
+    go false h = suc-le-suc h
+
 pub least-found : (k : ℕ) (P : ℕ → Bool) → least k P < k → P (least k P) ≡ true
 unfolding least
 least-found zero P h = absurd (not-suc-le-zero h)

@@ -1,18 +1,20 @@
 -- The machine's operations on a word, as sets: `&`, `!`, the count of ones under a mask, and trailing zeros.
 use mathlib.Core.Path.{_≡_, refl, sym, ap, ap₂, _∙_}
-use mathlib.Core.Bool.{Bool, not, _&&_}
+use mathlib.Core.Bool.{Bool, not, _&&_, and-assoc}
 use Prim.Native.Nat.{ℕ, zero, suc, _+_, _-_, _*_, _/_, _%_, _^_, _≤_, _<_}
-use native.Mathlib.Nat.{mod-lt, mod-one, mod-eq-of-lt, one-mul, add-comm, add-zero, le-of-suc-le-suc, lt-of-le-of-lt, not-suc-le-zero, pow-suc}
+use native.Mathlib.Nat.{mod-lt, mod-one, mod-eq-of-lt, one-mul, add-comm, add-zero, le-of-suc-le-suc, lt-of-le-of-lt, not-suc-le-zero, pow-suc, sub-zero}
 use native.Mathlib.Numerals.{add-one}
 use native.Mathlib.Omega.{arith}
-use lib.Dec.{eqb}
+use native.Mathlib.Decide.{decLt}
+use borrow.Author.Tests.{lt-ltb, le-ltb, le-leb, lt-leb}
+use lib.Dec.{eqb, ltb, leb}
 use lib.Bits.{bitAnd, and-shr, and-mod, and-mask, and-high, and-le-l}
 use lib.Pow.{pow-pos, pow-lt, pow-mono, mod-pow-add}
 use lib.Count.{ones, ones-cat, ones-le, trailingZeros, under}
 use Rattle.senders.specs.Tally.{digit, count, least, leastIf}
 use Rattle.senders.specs.Set.{mem, missing, correctCount, faultyCount}
 use Rattle.senders.proofs.TallyLaws.{count-same, least-same, Cut, least-cut}
-use Rattle.senders.proofs.SetLaws.{mem-zero, mem-suc, mem-shift}
+use Rattle.senders.proofs.SetLaws.{mem-zero, mem-suc, mem-shift, mem-high, set-laws}
 
 -- `1 << q`
 pub shl-one : (q : ℕ) → q < 64 → 1 * 2 ^ q % 2 ^ 64 ≡ 2 ^ q
@@ -51,6 +53,28 @@ mem-not (suc k) s (suc q) h l =
 -- `set & !other`
 pub mem-missing : (s o q : ℕ) → o < 2 ^ 64 → q < 64 → mem (bitAnd s ((2 ^ 64 - 1) - o)) q ≡ missing s o q
 mem-missing s o q h l = mem-and s _ q ∙ ap (λ (b : Bool). mem s q && b) (mem-not 64 o q h l)
+
+-- ---- the senders below c, as a mask
+pub mem-mask : (c q : ℕ) → mem (2 ^ c - 1) q ≡ ltb q c
+mem-mask c q = go (decLt q c)
+  where
+    go : Dec (q < c) → mem (2 ^ c - 1) q ≡ ltb q c
+    go (yes h) = rw (sub-zero (2 ^ c - 1)) at (mem-not c 0 q (pow-pos c) h) ∙ ap not (set-laws .empty q) ∙ sym (lt-ltb q c h)
+    go (no h) = mem-high (2 ^ c - 1) q (omega (arith, pow-pos c, pow-mono {i = c} {j = q} (omega arith))) ∙ sym (le-ltb q c (omega arith))
+
+not-ltb : (a b : ℕ) → not (ltb a b) ≡ leb b a
+not-ltb a b = go (decLt a b)
+  where
+    go : Dec (a < b) → not (ltb a b) ≡ leb b a
+    go (yes h) = rw (lt-ltb a b h, lt-leb b a h)
+    go (no h) = rw (le-ltb a b (omega arith), le-leb b a (omega arith))
+
+pub mem-first : (c s o q : ℕ) → missing (bitAnd (2 ^ c - 1) s) o q ≡ (ltb q c && missing s o q)
+mem-first c s o q = ap (λ (b : Bool). b && not (mem o q)) (mem-and (2 ^ c - 1) s q ∙ ap (λ (b : Bool). b && mem s q) (mem-mask c q)) ∙ and-assoc (ltb q c) (mem s q) (not (mem o q))
+
+pub mem-rest : (c o q : ℕ) → c ≤ 64 → q < 64 → missing ((2 ^ 64 - 1) - (2 ^ c - 1)) o q ≡ (leb c q && not (mem o q))
+mem-rest c o q h l =
+    ap (λ (b : Bool). b && not (mem o q)) (mem-not 64 (2 ^ c - 1) q (omega (arith, pow-pos c, pow-mono {i = c} {j = 64} h)) l ∙ ap not (mem-mask c q) ∙ not-ltb q c)
 
 -- ---- counts of ones
 ones-digit : (x : ℕ) → x < 2 → ones x ≡ digit (eqb x 1)
@@ -115,3 +139,11 @@ module _ (s o c : ℕ) (l : c ≤ 64) (h : o < 2 ^ 64) where
 
   pub lowest-none : c ≤ zeros → c ≡ least c (missing s o)
   lowest-none b = cut .none (rw (← trailing-least 64 (bitAnd s ((2 ^ 64 - 1) - o))) b)
+
+-- the lowest of the correct senders, and of the faulty ones, as the code asks for them with the mask m in hand
+module _ {m r : ℕ} (c n : ℕ) (e : m ≡ 2 ^ c - 1) where
+  pub lowest-correct : (s o : ℕ) → r ≡ least n (missing (bitAnd m s) o) → r ≡ least n (λ q. ltb q c && missing s o q)
+  lowest-correct s o h = rw e at h ∙ least-same n _ _ (λ q l. mem-first c s o q)
+
+  pub lowest-faulty : (o : ℕ) → c ≤ 64 → n ≤ 64 → r ≡ least n (missing ((2 ^ 64 - 1) - m) o) → r ≡ least n (λ q. leb c q && not (mem o q))
+  lowest-faulty o k b h = rw e at h ∙ least-same n _ _ (λ q l. mem-rest c o q k (omega arith))

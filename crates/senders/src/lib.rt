@@ -1,6 +1,8 @@
 // A set of up to 64 senders is a u64: bit q for sender q.
 ghost use mathlib.Core.Path.{_≡_};
+ghost use mathlib.Core.Bool.{not, _&&_};
 ghost use Prim.Native.Nat.{_+_, _-_, _^_, _≤_, _<_};
+ghost use lib.Dec.{ltb, leb};
 ghost use Rattle.senders.specs.Tally.{count, least};
 ghost use Rattle.senders.specs.Set.{mem, insert, missing, correctCount, faultyCount};
 
@@ -63,4 +65,20 @@ pub fn lowest_missing(set: u64, other: u64, c: u64) -> u64
 {
     let q = u64::trailing_zeros(set & !other) as u64;
     if q < c { q } else { c }
+}
+
+// The lowest of the correct senders, those below c, that is in the set and missing from the other; n where none is.
+pub fn lowest_correct(set: u64, other: u64, c: u64, n: u64) -> u64
+    requires { ⌜ (c ≤ 64) × (n ≤ 64) ⌝ }
+    ensures { λ r. ⌜ (r ≡ least n (λ q. ltb q c && missing set other q)) × (r ≤ n) ⌝ }
+{
+    lowest_missing(first(c) & set, other, n)
+}
+
+// The lowest of the faulty senders, those from c on, that is missing from the set; n where none is.
+pub fn lowest_faulty(set: u64, c: u64, n: u64) -> u64
+    requires { ⌜ (c ≤ 64) × (n ≤ 64) ⌝ }
+    ensures { λ r. ⌜ (r ≡ least n (λ q. leb c q && not (mem set q))) × (r ≤ n) ⌝ }
+{
+    lowest_missing(!first(c), set, n)
 }

@@ -12,7 +12,7 @@ use Rattle.senders.proofs.TallyLaws.{count-zero, some-found, some-never}
 use Rattle.senders.proofs.WordLaws.{shl-one}
 use Rattle.fault.specs.Tests.{_over_, _atLeast_, _differs_, outside}
 use Rattle.fault.specs.Fault.{refused, _if_else_, firstFault}
-use Rattle.fault.proofs.FaultLaws.{if-passed, then-clean, first-clean, Clean}
+use Rattle.fault.proofs.FaultLaws.{if-passed, then-clean, first-clean, Clean, if-most, Within, check-within, then-within, first-within}
 use Rattle.fault.proofs.TestLaws.{or-none, inside, same}
 use Rattle.table.specs.Table.{stateDistance, ruleDistance, statesOf, rulesOf, typesOf, factorOf, flagsOf, initialOf, sentOf, ruleSize, ruleAt, fromOf}
 use Rattle.table.specs.Refusals.{tooShort, countsOff, distancesOff, stateOff, noInitial, noState, forgets, sendsTwo, stateFault, ruleFault, recordsFault, tableFault}
@@ -137,3 +137,28 @@ well-formed s h =
       some-initial = not-false _ (f .0);
       rule = λ r l. rule-fits s r (first-clean (ruleFault s) (rulesOf s) (f .1) r l);
     }
+
+-- ---- what a table is refused for is at most 14, its place at most 64
+module _ (s : List ℕ) where
+  state-most : (i : ℕ) → stateFault s i ≤ 14
+  unfolding stateFault
+  state-most i = if-most _ (omega arith) (omega arith)
+
+  rule-most : (r : ℕ) → ruleFault s r ≤ 14
+  unfolding ruleFault
+  rule-most r = if-most _ (omega arith) (if-most _ (omega arith) (if-most _ (omega arith) (omega arith)))
+
+  records-within : Sized s → Within 14 64 (recordsFault s)
+  unfolding recordsFault
+  records-within z =
+      then-within (first-within 14 64 (stateFault s) state-most (statesOf s) (omega (arith, z .few-states)))
+      (check-within _ (omega arith) (λ _. first-within 14 64 (ruleFault s) rule-most (rulesOf s) (z .few-rules)))
+
+  pub table-within : Within 14 64 (tableFault s)
+  unfolding tableFault
+  table-within = check-within _ (omega arith) (λ a. check-within _ (omega arith) (λ b. check-within _ (omega arith) (λ d. records-within (sized s a b d))))
+
+  -- 936: 16 states of 2 bytes, 64 rules of 14, a trailer of 8
+  pub table-short : Sized s → length s ≤ 936
+  table-short z =
+      let a = mul-le-mul-right {m = rulesOf s} {n = 64} (ruleSize s) (z .few-rules) in omega (arith, z .whole, z .few-states, z .few-types)

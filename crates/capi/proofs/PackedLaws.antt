@@ -1,0 +1,92 @@
+-- Every answer fits its bits, and is read back from them.
+use mathlib.Core.Path.{_≡_, refl, sym, ap, _∙_, subst⁻¹}
+use mathlib.Core.List.{List}
+use Prim.Native.Nat.{ℕ, _+_, _*_, _/_, _%_, _^_, _≤_, _<_}
+use native.Mathlib.Omega.{arith}
+use borrow.Author.Tests.{ne-eqb}
+use Rattle.fault.specs.Fault.{_if_else_}
+use Rattle.engine.specs.declared.Answer.{Answer}
+use Rattle.engine.specs.Entry.{runAnswer}
+use Rattle.engine.proofs.BoundLaws.{AnswerWithin, run-answer-within}
+use Rattle.translate.specs.Entry.{translateAnswer}
+use Rattle.translate.proofs.BoundLaws.{translate-answer-within}
+use Rattle.first_step.specs.declared.First.{First}
+use Rattle.first_step.specs.Entry.{firstAnswer}
+use Rattle.first_step.proofs.BoundLaws.{FirstWithin, first-answer-within}
+use Rattle.capi.specs.Packed.{packed, answerIn, Fits, packedFirst, firstIn, FirstFits, NothingLost}
+
+-- ---- read back
+answer-back : (a : Answer) → Fits a → answerIn (packed a) ≡ a
+answer-back a h =
+    let x : ℕ = packed a in
+    let k : x % 2 ^ 8 ≡ a .refusal = omega (arith, h .refusal) in
+    let u : x / 2 ^ 8 ≡ a .place + 2 ^ 24 * a .count = omega (arith, h .refusal) in
+    let p : x / 2 ^ 8 % 2 ^ 24 ≡ a .place = rw u (omega (arith, h .place)) in
+    let c : x / 2 ^ 32 ≡ a .count = omega (arith, h .refusal, h .place) in
+    rw (k, p, c)
+
+first-back : (f : First) → FirstFits f → firstIn (packedFirst f) ≡ f
+unfolding firstIn _if_else_
+first-back (First.Refused k p) h =
+    let x : ℕ = k + 2 ^ 8 * p in
+    let s : x / 2 ^ 24 ≡ 0 = omega arith in
+    let e : x % 2 ^ 8 ≡ k = omega arith in
+    let u : x / 2 ^ 8 ≡ p = omega arith in
+    let g : x / 2 ^ 8 % 2 ^ 16 ≡ p = rw u (omega arith) in
+    rw (s, e, g, ne-eqb k 0 (omega arith))
+first-back First.Nothing h = refl
+first-back (First.Step b r m q) h =
+    let x : ℕ = 2 ^ 24 + 2 ^ 32 * (b + 2 ^ 8 * r + 2 ^ 16 * m + 2 ^ 24 * q) in
+    let t : x / 2 ^ 24 ≡ 1 + 2 ^ 8 * (b + 2 ^ 8 * r + 2 ^ 16 * m + 2 ^ 24 * q) = omega arith in
+    let s : x / 2 ^ 24 % 2 ≡ 1 = rw t (omega arith) in
+    let u : x / 2 ^ 32 ≡ b + 2 ^ 8 * (r + 2 ^ 8 * m + 2 ^ 16 * q) = omega arith in
+    let e : x / 2 ^ 32 % 2 ^ 8 ≡ b = rw u (omega arith) in
+    let v : x / 2 ^ 40 ≡ r + 2 ^ 8 * (m + 2 ^ 8 * q) = omega arith in
+    let f : x / 2 ^ 40 % 2 ^ 8 ≡ r = rw v (omega arith) in
+    let w : x / 2 ^ 48 ≡ m + 2 ^ 8 * q = omega arith in
+    let g : x / 2 ^ 48 % 2 ^ 8 ≡ m = rw w (omega arith) in
+    let i : x / 2 ^ 56 ≡ q = omega arith in
+    rw (s, e, f, g, i)
+
+-- ---- every answer fits
+within-fits : (n : ℕ) (a : Answer) → n < 2 ^ 32 → AnswerWithin n a → Fits a
+within-fits n a l W = record { refusal = omega arith; place = omega arith; count = omega arith }
+
+run-fits : (b standing : List ℕ) (lent : ℕ) → Fits (runAnswer b standing lent)
+run-fits b standing lent = within-fits 4096 _ (omega arith) (run-answer-within b standing lent)
+
+translate-fits : (b standing : List ℕ) (lent : ℕ) → Fits (translateAnswer b standing lent)
+translate-fits b standing lent = within-fits 17392 _ (omega arith) (translate-answer-within b standing lent)
+
+within-first : (f : First) → FirstWithin f → FirstFits f
+within-first (First.Refused k p) (a, b, c) = (a, omega arith, omega arith)
+within-first First.Nothing h = tt
+within-first (First.Step b r m q) (x, y, z, u) = (omega arith, omega arith, z, u)
+
+first-fits : (b standing : List ℕ) → FirstFits (firstAnswer b standing)
+first-fits b standing = within-first (firstAnswer b standing) (first-answer-within b standing)
+
+pub nothing-lost : NothingLost
+nothing-lost = record { answer-back = answer-back; first-back = first-back; run-fits = run-fits; translate-fits = translate-fits; first-fits = first-fits }
+
+-- ---- the code, from what it has in hand
+pub packed-by : {x : ℕ} {a a′ : Answer} → a ≡ a′ → x ≡ packed a → x ≡ packed a′
+packed-by e h = h ∙ ap packed e
+
+pub run-fits-by : {a : Answer} (b standing : List ℕ) (lent : ℕ) → a ≡ runAnswer b standing lent → Fits a
+run-fits-by b standing lent e = subst⁻¹ Fits e (run-fits b standing lent)
+
+pub translate-fits-by : {a : Answer} (b standing : List ℕ) (lent : ℕ) → a ≡ translateAnswer b standing lent → Fits a
+translate-fits-by b standing lent e = subst⁻¹ Fits e (translate-fits b standing lent)
+
+pub first-fits-by : {f : First} (b standing : List ℕ) → f ≡ firstAnswer b standing → FirstFits f
+first-fits-by b standing e = subst⁻¹ FirstFits e (first-fits b standing)
+
+pub packed-first-by : {x : ℕ} {f f′ : First} → f ≡ f′ → x ≡ packedFirst f → x ≡ packedFirst f′
+packed-first-by e h = h ∙ ap packedFirst e
+
+pub told-packed : {x : ℕ} {f f′ : First} → f ≡ f′ → x ≡ packedFirst f′ → x ≡ packedFirst f
+told-packed e h = packed-first-by (sym e) h
+
+pub told-fits : {f g : First} → f ≡ g → FirstFits f → FirstFits g
+told-fits e h = rw e at h

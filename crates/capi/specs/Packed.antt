@@ -1,0 +1,55 @@
+-- The one number that an exported function answers (the boundary page, "Packed" and "Packed step"), and that nothing is lost in it.
+-- The proof of the last is `nothing-lost` of proofs/PackedLaws.antt.
+use mathlib.Core.Path.{_≡_}
+use mathlib.Core.List.{List}
+use Prim.Native.Nat.{ℕ, _+_, _*_, _/_, _%_, _^_, _≤_, _<_}
+use lib.Dec.{eqb}
+use Rattle.fault.specs.Tests.{_differs_}
+use Rattle.fault.specs.Fault.{_if_else_}
+use Rattle.engine.specs.declared.Answer.{Answer}
+use Rattle.engine.specs.Entry.{runAnswer}
+use Rattle.translate.specs.Entry.{translateAnswer}
+use Rattle.first_step.specs.declared.First.{First}
+use Rattle.first_step.specs.Entry.{firstAnswer}
+
+-- ---- an answer: the refusal in bits 0 to 7, the place in bits 8 to 31, the count in bits 32 to 63
+abbrev pub packed : Answer → ℕ
+packed a = a .refusal + 2 ^ 8 * a .place + 2 ^ 32 * a .count
+
+-- the answer that stands in these bits
+abbrev pub answerIn : ℕ → Answer
+answerIn x = record { refusal = x % 2 ^ 8; place = x / 2 ^ 8 % 2 ^ 24; count = x / 2 ^ 32 }
+
+-- each number has room in its bits
+pub record Fits (a : Answer) : Type 0 where
+  pub refusal : a .refusal < 2 ^ 8
+  pub place : a .place < 2 ^ 24
+  pub count : a .count < 2 ^ 32
+
+-- ---- a first step: the refusal in bits 0 to 7, the place in bits 8 to 23; bit 24 is 1 where a step is given, and then bits 32 to 63
+-- are its four bytes, board lowest, then rule, type, source; all are 0 where there is none
+abbrev pub packedFirst : First → ℕ
+packedFirst (First.Refused k p) = k + 2 ^ 8 * p
+packedFirst First.Nothing = 0
+packedFirst (First.Step b r m q) = 2 ^ 24 + 2 ^ 32 * (b + 2 ^ 8 * r + 2 ^ 16 * m + 2 ^ 24 * q)
+
+-- the first step that stands in these bits
+unfoldable pub firstIn : ℕ → First
+firstIn x =
+    First.Step (x / 2 ^ 32 % 2 ^ 8) (x / 2 ^ 40 % 2 ^ 8) (x / 2 ^ 48 % 2 ^ 8) (x / 2 ^ 56) if eqb (x / 2 ^ 24 % 2) 1 else
+    First.Refused (x % 2 ^ 8) (x / 2 ^ 8 % 2 ^ 16) if x % 2 ^ 8 differs 0 else
+    First.Nothing
+
+-- each number has room in its bits, and a refusal is not 0
+abbrev pub FirstFits : First → Type 0
+FirstFits (First.Refused k p) = (1 ≤ k) × (k < 2 ^ 8) × (p < 2 ^ 16)
+FirstFits First.Nothing = Unit {0}
+FirstFits (First.Step b r m q) = (b < 2 ^ 8) × (r < 2 ^ 8) × (m < 2 ^ 8) × (q < 2 ^ 8)
+
+-- ---- nothing is lost: whatever fits is read back from its number, and every answer fits
+pub record NothingLost : Type 0 where
+  pub answer-back : (a : Answer) → Fits a → answerIn (packed a) ≡ a
+  pub first-back : (f : First) → FirstFits f → firstIn (packedFirst f) ≡ f
+  pub run-fits : (b standing : List ℕ) (lent : ℕ) → Fits (runAnswer b standing lent)
+  pub translate-fits : (b standing : List ℕ) (lent : ℕ) → Fits (translateAnswer b standing lent)
+  pub first-fits : (b standing : List ℕ) → FirstFits (firstAnswer b standing)

@@ -1,0 +1,80 @@
+// The library that others link: each exported function is a thin call, its answer packed as the boundary page says.
+ghost use mathlib.Core.Path.{_≡_};
+ghost use lib.ListN.{length};
+ghost use Rattle.engine.specs.Entry.{runAnswer, runWords};
+ghost use Rattle.translate.specs.Entry.{translateAnswer, translateBytes};
+ghost use Rattle.first_step.specs.Entry.{firstAnswer};
+ghost use Rattle.capi.specs.Packed.{packed, Fits, packedFirst, FirstFits};
+use engine::Answer;
+use first_step::First;
+
+// Runs a bundle's schedule in the lent words: refusal, place, steps accepted.
+#[no_mangle]
+pub extern "C" fn macaroosh_run<'a>(bundle: &'a [u8], standing: &'a [u8], words: &mut [u64]) -> u64
+    ensures { λ r. ⌜ r ≡ packed (runAnswer (now (bundle .entry)) (now (standing .entry)) (length (now (words .entry)))) ⌝ }
+    ensures { λ r. ⌜ now (words .exit) ≡ runWords (now (bundle .entry)) (now (standing .entry)) (now (words .entry)) ⌝ }
+{
+    pack(engine::run(bundle, standing, words))
+}
+
+// Writes a bundle's translation into the lent bytes: refusal, place, bytes written.
+#[no_mangle]
+pub extern "C" fn macaroosh_translate<'a>(
+    bundle: &'a [u8],
+    standing: &'a [u8],
+    out: &mut [u8],
+) -> u64
+    ensures { λ r. ⌜ r ≡ packed (translateAnswer (now (bundle .entry)) (now (standing .entry)) (length (now (out .entry)))) ⌝ }
+    ensures { λ r. ⌜ now (out .exit) ≡ translateBytes (now (bundle .entry)) (now (standing .entry)) (now (out .entry)) ⌝ }
+{
+    pack(translate::translate(bundle, standing, out))
+}
+
+// The first possible step after a bundle's schedule.
+#[no_mangle]
+pub extern "C" fn macaroosh_first_step<'a>(bundle: &'a [u8], standing: &'a [u8]) -> u64
+    ensures { λ r. ⌜ r ≡ packedFirst (firstAnswer (now (bundle .entry)) (now (standing .entry))) ⌝ }
+{
+    pack_first(first_step::first_step(bundle, standing))
+}
+
+// An answer in one number: the refusal lowest, the place from bit 8, the count from bit 32.
+fn pack(a: Answer) -> u64
+    requires { ⌜ Fits a ⌝ }
+    ensures { λ r. ⌜ r ≡ packed a ⌝ }
+{
+    a.refusal + 256 * a.place + 4294967296 * a.count
+}
+
+// The first step in one number; 0 where none is possible.
+fn pack_first(f: First) -> u64
+    requires { ⌜ FirstFits f ⌝ }
+    ensures { λ r. ⌜ r ≡ packedFirst f ⌝ }
+{
+    match f {
+        First::Refused { number, place } => pack_refused(number as u64, place as u64),
+        First::Nothing => 0,
+        First::Step {
+            board,
+            rule,
+            kind,
+            source,
+        } => pack_step(board as u64, rule as u64, kind as u64, source as u64),
+    }
+}
+
+// A refusal in one number: its place from bit 8.
+fn pack_refused(number: u64, place: u64) -> u64
+    requires { ⌜ FirstFits (First.Refused number place) ⌝ }
+    ensures { λ r. ⌜ r ≡ packedFirst (First.Refused number place) ⌝ }
+{
+    number + 256 * place
+}
+
+// A step in one number: bit 24, and a byte for each of its numbers from bit 32.
+fn pack_step(board: u64, rule: u64, kind: u64, source: u64) -> u64
+    requires { ⌜ FirstFits (First.Step board rule kind source) ⌝ }
+    ensures { λ r. ⌜ r ≡ packedFirst (First.Step board rule kind source) ⌝ }
+{
+    16777216 + 4294967296 * (board + 256 * rule + 65536 * kind + 16777216 * source)
+}

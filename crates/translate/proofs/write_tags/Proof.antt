@@ -1,0 +1,34 @@
+use mathlib.Core.Path.{sym, _∙_}
+use Prim.Native.Nat.{_/_, _-_, _≤_}
+use native.Mathlib.Omega.{arith}
+use borrow.Author.Needs.{needs}
+use lib.ListN.{length}
+use Rattle.translate.proofs.LoopLaws.{Tags, tags-none, tags-more, tags-all}
+use Rattle.translate.proofs.write_tags.Statement.{statement}
+use Rattle.translate.proofs.write_tags.Tie as tie
+
+abbrev Inv-loop : tie.InvT-loop
+Inv-loop c steps₀ total i₀ steps i = (i ≤ total) × Tags c total steps₀ i steps
+
+abbrev μ-loop : tie.MeasureT-loop
+μ-loop c steps₀ total i₀ steps i = total - i
+
+pub write-tags-spec : {M : Type 1} → statement M
+write-tags-spec =
+    tie.close
+    (tie.spec
+    Inv-loop
+    μ-loop
+    (λ c. let st = c .before in
+    (omega arith, tags-none (st .args .c) (length (st .args .steps .now) / 4) (st .args .steps .now) (st .pre .1)))
+    (λ c κs. let st = c .before .before .before .before in
+    (omega (arith, c .before .loop-test .taken, st .pre .0), omega (arith, c .before .loop-test .taken, c .before .before .loop .inv .1 .long)))
+    (λ c. let st = c .before .before .before .before .before .before .before in
+    omega (arith, c .before .before .before .before .loop-test .taken, st .pre .0))
+    (λ c. omega (arith, c .before .before .before .before .loop-test .taken))
+    (λ c. let st = c .before .before .before .before .before .before .before in
+    let t = c .before .before .before .before .loop-test .taken in
+    (omega (arith, t), tags-more (st .args .c) (length (st .args .steps .now) / 4) (st .args .steps .now) (st .pre .1) (c .before .before .before .before .before .loop .inv .1) t (c .before .before .tag-at .ensures)))
+    (λ c. c .before .loop .inv .1 .long ∙ sym (c .before .before .before .pre .1))
+    (λ c. let st = c .before .before .before in
+    tags-all (st .args .c) (length (st .args .steps .now) / 4) (st .args .steps .now) (st .pre .1) (c .before .loop .inv .1) (c .before .loop .inv .0) (omega (arith, c .loop-test .left))))
