@@ -1,6 +1,25 @@
 //! Bundles for tests: made by walking the model, damaged, or noise; the same for the same seed.
 
-use crate::model::{read, Bundle, Configuration, Step, ECHO};
+use crate::answer::Step;
+use crate::model::{read, Bundle, Configuration, Model, Outline};
+use crate::ECHO;
+use std::panic::resume_unwind;
+use std::thread;
+
+/// What is made of each seed from 1 on, on all processors; the order is any.
+pub fn each_seed<T: Send>(seeds: u64, make: impl Fn(u64) -> T + Sync) -> Vec<T> {
+    let workers = thread::available_parallelism().map_or(1, |n| n.get() as u64);
+    let share = |worker| (1..=seeds).filter(|seed| seed % workers == worker).map(&make).collect::<Vec<T>>();
+    thread::scope(|scope| {
+        let all: Vec<_> = (0..workers).map(|worker| scope.spawn(move || share(worker))).collect();
+        all.into_iter().flat_map(|worker| worker.join().unwrap_or_else(|cause| resume_unwind(cause))).collect()
+    })
+}
+
+/// How many seeds a test tries: what the environment variable says, or so many.
+pub fn seeds(variable: &str, otherwise: u64) -> u64 {
+    std::env::var(variable).ok().and_then(|number| number.parse().ok()).unwrap_or(otherwise)
+}
 
 /// A small generator of numbers (xorshift), so that a seed names its bundles for good.
 pub struct Dice(u64);
@@ -31,6 +50,11 @@ impl Dice {
     /// Yes once in `n` times.
     pub fn once_in(&mut self, n: usize) -> bool {
         self.below(n) == 0
+    }
+
+    /// Any word, for lent memory.
+    pub fn junk(&mut self) -> u64 {
+        self.roll()
     }
 
     fn one_of(&mut self, bytes: &[u8]) -> u8 {
@@ -83,20 +107,26 @@ fn ends(dice: &mut Dice, states: &[u8], count: usize) -> (usize, usize) {
     (0, 0)
 }
 
-/// A bundle whose steps were all accepted by the model, but for a last one now and then.
+/// A bundle whose steps were all accepted by the model, but for a last one now and then; without a front it is for the
+/// echo table.
 pub fn bundle(dice: &mut Dice) -> Vec<u8> {
     let own = !dice.once_in(3);
     let table = if own && !dice.once_in(3) { table(dice) } else { ECHO.to_vec() };
+    bundle_for(dice, &table, own)
+}
+
+// The same for a table, which is put in front or is to stand beside it.
+fn bundle_for(dice: &mut Dice, table: &[u8], own: bool) -> Vec<u8> {
     let factor = usize::from(table[table.len() - 1]);
     let n = if dice.once_in(4) { 64 } else { dice.between(1, 64) };
     let t = dice.between(0, (n - 1) / factor);
     let f = dice.between(0, t);
     let form = dice.below(2) as u8;
     let initial: Vec<u8> = (0..table[table.len() - 4]).filter(|&s| table[2 * usize::from(s)] & 1 == 1).collect();
-    let mut bytes = if own { table } else { Vec::new() };
+    let mut bytes = if own { table.to_vec() } else { Vec::new() };
     bytes.extend((0..n - f).map(|_| dice.one_of(&initial)));
     let empty = closed(&bytes, &[], n - f, [n as u8, t as u8, f as u8, form]);
-    let steps = match read(&empty, &ECHO) {
+    let steps = match read(&empty, table) {
         Ok(bundle) => walk(dice, &bundle),
         Err(_) => Vec::new(),
     };
@@ -107,7 +137,7 @@ pub fn bundle(dice: &mut Dice) -> Vec<u8> {
 fn closed(before: &[u8], steps: &[Step], correct: usize, numbers: [u8; 4]) -> Vec<u8> {
     let mut bytes = before.to_vec();
     for s in steps {
-        bytes.extend([s.board, s.rule, s.kind, s.source]);
+        bytes.extend(s.record());
     }
     bytes.extend(little_endian(4 * steps.len()));
     bytes.extend(little_endian(4 * steps.len() + correct));
@@ -124,9 +154,9 @@ fn walk(dice: &mut Dice, bundle: &Bundle) -> Vec<Step> {
             break;
         }
         if let Some(step) = guess(dice, bundle, &configuration) {
-            match bundle.step(&configuration, step) {
-                Ok(after) => {
-                    configuration = after;
+            match Model.check(bundle, &configuration, step) {
+                Ok(()) => {
+                    bundle.apply(&mut configuration, step);
                     steps.push(step);
                 }
                 Err(_) if dice.once_in(200) => {
@@ -137,7 +167,23 @@ fn walk(dice: &mut Dice, bundle: &Bundle) -> Vec<Step> {
             }
         }
     }
+    if dice.once_in(8) {
+        steps.push(wild(dice, bundle));
+    }
     steps
+}
+
+// A step with any of its four numbers out of range, or several.
+fn wild(dice: &mut Dice, bundle: &Bundle) -> Step {
+    let board = dice.below(bundle.correct() + 1) as u8;
+    let rule = dice.below(bundle.table.rules.len() + 1) as u8;
+    let (kind, source) = (dice.below(bundle.table.types + 1) as u8, dice.below(bundle.sources() + 1) as u8);
+    Step {
+        board: dice.one_of(&[board, board, bundle.correct() as u8, 255]),
+        rule: dice.one_of(&[rule, rule, bundle.table.rules.len() as u8, 255]),
+        kind: dice.one_of(&[kind, kind, 255]),
+        source: dice.one_of(&[source, source, 255]),
+    }
 }
 
 // A step whose rule leaves the board's state.
@@ -152,10 +198,11 @@ fn guess(dice: &mut Dice, bundle: &Bundle, configuration: &Configuration) -> Opt
     Some(Step { board: board as u8, rule: rule as u8, kind: kind as u8, source: source as u8 })
 }
 
-/// The bundle with up to three bytes changed, cut short now and then.
+/// The bundle with up to three bytes changed, often in its trailer, cut short now and then.
 pub fn damaged(dice: &mut Dice, mut bytes: Vec<u8>) -> Vec<u8> {
     for _ in 0..dice.between(1, 3) {
-        let at = dice.below(bytes.len());
+        let length = bytes.len();
+        let at = if dice.once_in(4) { length.saturating_sub(dice.between(1, 8)) } else { dice.below(length) };
         let small = dice.below(8) as u8;
         let any = dice.below(256) as u8;
         if let Some(byte) = bytes.get_mut(at) {
@@ -166,6 +213,41 @@ pub fn damaged(dice: &mut Dice, mut bytes: Vec<u8>) -> Vec<u8> {
         bytes.truncate(dice.below(bytes.len() + 1));
     }
     bytes
+}
+
+/// A table with one to three faults, of kinds that a change of any byte rarely makes.
+pub fn faulty_table(dice: &mut Dice) -> Vec<u8> {
+    let mut part = table(dice);
+    for _ in 0..dice.between(1, 3) {
+        spoil_table(dice, &mut part);
+    }
+    if dice.once_in(8) {
+        part.truncate(dice.below(9));
+    }
+    part
+}
+
+fn spoil_table(dice: &mut Dice, part: &mut [u8]) {
+    let trailer = part.len() - 8;
+    // A count may be spoilt already.
+    let states = usize::from(part[trailer + 4]).clamp(1, 16).min(trailer / 2);
+    let types = usize::from(part[trailer + 6]).clamp(1, 4);
+    match dice.below(12) {
+        // A count or k.
+        0 => part[trailer + dice.between(4, 7)] = dice.one_of(&[0, 5, 9, 17, 65, 255]),
+        // A distance.
+        1 => part[trailer + dice.below(4)] ^= 1 << dice.below(8),
+        // No state is initial.
+        2..=3 => (0..states).for_each(|s| part[2 * s] &= 2),
+        // Flags or the mask of a state, so that a rule may forget types or send two.
+        4..=7 => part[dice.below(2 * states)] = dice.below(1 << (types + 1)) as u8,
+        // An end of a rule.
+        _ => {
+            let rule = dice.below((trailer - 2 * states) / (2 + 3 * types));
+            let at = 2 * states + rule * (2 + 3 * types) + dice.below(2);
+            part[at] = dice.below(states + 2) as u8;
+        }
+    }
 }
 
 /// Bytes of no meaning.
@@ -184,5 +266,30 @@ pub fn any(dice: &mut Dice) -> Vec<u8> {
             damaged(dice, bytes)
         }
         _ => bundle(dice),
+    }
+}
+
+/// A bundle of any kind and a standing table of any kind for it.
+pub fn case(dice: &mut Dice) -> (Vec<u8>, Vec<u8>) {
+    match dice.below(10) {
+        // Without a front, beside a table of its own: sound, or with a fault.
+        0..=1 => {
+            let standing = table(dice);
+            (bundle_for(dice, &standing, false), standing)
+        }
+        2 => {
+            let sound = table(dice);
+            (bundle_for(dice, &sound, false), faulty_table(dice))
+        }
+        // A front with a fault.
+        3..=4 => {
+            let sound = table(dice);
+            let schedule = bundle_for(dice, &sound, false);
+            ([faulty_table(dice), schedule].concat(), ECHO.to_vec())
+        }
+        // A standing table of no meaning, often not looked at.
+        5 => (any(dice), noise(dice)),
+        6 => (any(dice), Vec::new()),
+        _ => (any(dice), ECHO.to_vec()),
     }
 }

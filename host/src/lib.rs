@@ -1,6 +1,83 @@
-//! The bench's independent judge: the obvious version of what the proved crates do, written from the outline alone.
-#![forbid(unsafe_code)]
+//! The agreement bench for Rust: the proved library's calls, and beside them an independent model that judges them.
+//!
+//! ```
+//! use macaroosh::{first_step, run, MOST_WORDS, ECHO};
+//!
+//! // Schedule W of the outline: three correct boards and a faulty one, read beside the echo table.
+//! let w = [
+//!     1, 1, 1, 0, 3, 255, 255, 1, 3, 255, 255, 2, 3, 0, 0, 2, 4, 0, 3, 2, 5, 0, 1, 20, 0, 23, 0, 4, 1, 1, 0,
+//! ];
+//! let mut words = [0; MOST_WORDS];
+//! let answer = run(&w, &ECHO, &mut words);
+//! assert_eq!((answer.refusal, answer.place, answer.count), (0, 0, 5));
+//! assert_eq!(words[..7], [2, 2, 3, 0, 0, 0b1011, 0b111]);
+//! let step = first_step(&w, &ECHO).expect("no refusal").expect("a step");
+//! assert_eq!((step.board, step.rule, step.silent()), (0, 4, true));
+//! ```
+#![deny(unsafe_code)]
 #![warn(missing_docs)]
 
+pub mod answer;
 pub mod bundles;
+pub mod compare;
+mod ffi;
 pub mod model;
+pub mod parts;
+pub mod refusals;
+
+pub use answer::{Answer, Bench, First, Refusal, Step};
+
+/// The echo table of the outline: the report program's standing table.
+pub const ECHO: [u8; 51] = [
+    0x01, 0x00, 0x01, 0x00, 0x00, 0x01, 0x02, 0x01, 0x00, 0x00, 0x00, 0x00, 0x00, 0x00, 0x02, 0x00, 0x01, 0x01, 0x00,
+    0x03, 0x01, 0xFF, 0x00, 0x01, 0x02, 0x00, 0x00, 0x00, 0x02, 0x02, 0x00, 0x00, 0x00, 0x02, 0x03, 0x01, 0xFF, 0x00,
+    0x03, 0x03, 0x00, 0x00, 0x00, 0x2B, 0x00, 0x23, 0x00, 0x04, 0x07, 0x01, 0x03,
+];
+
+/// The most words that a configuration has: 64 states, 64 · 4 pairs of counts, 4 sent counts.
+pub const MOST_WORDS: usize = 64 + 64 * 4 * 2 + 4;
+
+/// The most bytes that a bundle has: 16 states, 64 rules of 14 bytes, 64 starts, 4,096 steps, two trailers.
+pub const MOST_BYTES: usize = 16 * 2 + 64 * 14 + 8 + 64 + 4_096 * 4 + 8;
+
+/// Runs a bundle beside a standing table; the configuration is left in the lent words, of which `MOST_WORDS` are enough.
+pub fn run(bundle: &[u8], standing: &[u8], words: &mut [u64]) -> Answer {
+    unpacked(ffi::run(bundle, standing, words))
+}
+
+/// Writes the bundle in the other form; as many bytes as the bundle has are enough.
+pub fn translate(bundle: &[u8], standing: &[u8], out: &mut [u8]) -> Answer {
+    unpacked(ffi::translate(bundle, standing, out))
+}
+
+/// The first possible step after the whole schedule, or none.
+pub fn first_step(bundle: &[u8], standing: &[u8]) -> First {
+    let packed = ffi::first_step(bundle, standing);
+    let [number, low, high, given, board, rule, kind, source] = packed.to_le_bytes();
+    if number != 0 {
+        return Err(Refusal { number, place: u32::from(u16::from_le_bytes([low, high])) });
+    }
+    Ok(if given & 1 == 1 { Some(Step { board, rule, kind, source }) } else { None })
+}
+
+// The refusal in bits 0 to 7, the place in bits 8 to 31, the count in bits 32 to 63.
+fn unpacked(packed: u64) -> Answer {
+    Answer { refusal: packed as u8, place: packed as u32 >> 8, count: (packed >> 32) as u32 }
+}
+
+/// The proved library as one of the benches that are compared.
+pub struct Library;
+
+impl Bench for Library {
+    fn run(&self, bundle: &[u8], standing: &[u8], words: &mut [u64]) -> Answer {
+        run(bundle, standing, words)
+    }
+
+    fn translate(&self, bundle: &[u8], standing: &[u8], out: &mut [u8]) -> Answer {
+        translate(bundle, standing, out)
+    }
+
+    fn first_step(&self, bundle: &[u8], standing: &[u8]) -> First {
+        first_step(bundle, standing)
+    }
+}

@@ -1,8 +1,8 @@
-//! The proved report program against the model, on seeded bundles. `SEEDS=n` tries more of them.
+//! The proved report program against the model, on seeded bundles. `REPORTS=n` tries more than 1,500.
 
-use macaroosh::bundles::{any, Dice};
+use macaroosh::bundles::{any, each_seed, seeds, Dice};
 use macaroosh::model::report;
-use std::collections::BTreeMap;
+use std::collections::BTreeSet;
 use std::io::Write;
 use std::path::Path;
 use std::process::{Command, Stdio};
@@ -20,18 +20,18 @@ fn proved(bundle: &[u8]) -> String {
     String::from_utf8(output.stdout).expect("text")
 }
 
+// The refusal that was reported.
+fn agrees(seed: u64) -> String {
+    let bundle = any(&mut Dice::new(seed));
+    let expected = report(&bundle);
+    assert_eq!(proved(&bundle), expected, "seed {seed}: {bundle:02x?}");
+    expected.split(' ').nth(1).expect("a number").to_string()
+}
+
 #[test]
 fn the_report_program_agrees_with_the_model() {
-    let seeds = std::env::var("SEEDS").ok().and_then(|n| n.parse().ok()).unwrap_or(1_500);
-    let mut seen: BTreeMap<String, usize> = BTreeMap::new();
-    for seed in 1..=seeds {
-        let bundle = any(&mut Dice::new(seed));
-        let expected = report(&bundle);
-        assert_eq!(proved(&bundle), expected, "seed {seed}: {bundle:02x?}");
-        let refusal = expected.split(' ').nth(1).expect("a number").to_string();
-        *seen.entry(refusal).or_default() += 1;
-    }
+    let seen: BTreeSet<String> = each_seed(seeds("REPORTS", 1_500), agrees).into_iter().collect();
     for refusal in ["0", "3", "4", "6", "10", "11", "12", "13", "14", "20", "21", "22", "23", "24", "25"] {
-        assert!(seen.contains_key(refusal), "no bundle was refused with {refusal}: {seen:?}");
+        assert!(seen.contains(refusal), "no bundle was refused with {refusal}: {seen:?}");
     }
 }

@@ -1,0 +1,70 @@
+/* The proved bench for C programs. Link target/staticlib/libcapi.a, which 'rt staticlib capi' writes, for x86-64 Linux.
+ *
+ * A bundle is read beside a standing table, which is looked at only where the bundle has no table in front. Any bytes may be
+ * given: what is no bundle is refused by number. A pointer is never NULL, also where its length is 0, and lent memory does
+ * not overlap what is read. No call keeps a pointer, allocates or reads more than its arguments. */
+#ifndef MACAROOSH_H
+#define MACAROOSH_H
+
+#include <stddef.h>
+#include <stdint.h>
+
+#ifdef __cplusplus
+extern "C" {
+#endif
+
+/* The most words that a configuration has: 64 states, 64 * 4 pairs of counts, 4 sent counts. */
+#define MACAROOSH_MOST_WORDS 580
+
+/* The most bytes that a bundle has. */
+#define MACAROOSH_MOST_BYTES 17392
+
+/* Runs a bundle. With C = n - f boards and T types the configuration is left in the lent words, of which
+ * MACAROOSH_MOST_WORDS are always enough (`words_length` counts words, not bytes):
+ *   message form:  C states; C * T received sets, board by board, bit q for sender q; T sent sets;
+ *   counting form: C states; for each board and type the correct count and then the faulty one; T sent counts.
+ * Answers packed: refusal, place, steps accepted. A run refused at step i (20 to 25) leaves the configuration after i steps;
+ * any other refusal leaves the words as they were. Words past the needed ones never change. */
+uint64_t macaroosh_run(const uint8_t *bundle, size_t bundle_length, const uint8_t *standing, size_t standing_length,
+                       uint64_t *words, size_t words_length);
+
+/* Writes the bundle in the other form (message to counting, counting to message) to the lent bytes; it is as long as the
+ * bundle itself. Answers packed: refusal, place, bytes written. Any refusal leaves the bytes as they were. */
+uint64_t macaroosh_translate(const uint8_t *bundle, size_t bundle_length, const uint8_t *standing, size_t standing_length,
+                             uint8_t *out, size_t out_length);
+
+/* The first step that is possible after the whole schedule. Answers a packed step. */
+uint64_t macaroosh_first_step(const uint8_t *bundle, size_t bundle_length, const uint8_t *standing, size_t standing_length);
+
+/* Refusals, in the order of the checks; 0 is none. The place counts from 0 what stands in brackets, and is 0 elsewhere.
+ *   10 bundle under 8 bytes                        11 second distance plus 8 exceeds the bundle
+ *    1 table part under 8 bytes                     2 a trailer count or k out of range
+ *    3 distances disagree with counts or length     4 a state's flags or sent mask [state]
+ *    5 no initial state                             6 from or to is no state [rule]
+ *    7 the rule forgets a sent type [rule]          8 the rule sends two new types [rule]
+ *   12 n, t, f not admitted, or form over 1        13 the schedule's distances
+ *   14 a start is not an initial state [board]     30 lent output too short (run, translate)
+ *   20 board not below n - f [step]                21 rule not in the table [step]
+ *   22 rule does not leave the state [step]        23 type or source out of range [step]
+ *   24 message not in transit [step]               25 a threshold is not met [step] */
+
+/* Packed, of run and translate: the refusal in bits 0 to 7, the place in bits 8 to 31, the count in bits 32 to 63. */
+static inline unsigned macaroosh_refusal(uint64_t packed) { return (unsigned)(packed & 0xFF); }
+static inline uint32_t macaroosh_place(uint64_t packed) { return (uint32_t)(packed >> 8 & 0xFFFFFF); }
+static inline uint32_t macaroosh_count(uint64_t packed) { return (uint32_t)(packed >> 32); }
+
+/* A packed step: the refusal in bits 0 to 7 (by macaroosh_refusal), the place in bits 8 to 23; bit 24 is 1 where a step is
+ * given; then its four bytes are in bits 32 to 63. Type and source are both 255 where the step receives nothing; the source
+ * is the sender in message form, and 0 for correct or 1 for faulty in counting form. */
+static inline uint32_t macaroosh_step_place(uint64_t packed) { return (uint32_t)(packed >> 8 & 0xFFFF); }
+static inline int macaroosh_step_given(uint64_t packed) { return (int)(packed >> 24 & 1); }
+static inline uint8_t macaroosh_step_board(uint64_t packed) { return (uint8_t)(packed >> 32); }
+static inline uint8_t macaroosh_step_rule(uint64_t packed) { return (uint8_t)(packed >> 40); }
+static inline uint8_t macaroosh_step_type(uint64_t packed) { return (uint8_t)(packed >> 48); }
+static inline uint8_t macaroosh_step_source(uint64_t packed) { return (uint8_t)(packed >> 56); }
+
+#ifdef __cplusplus
+}
+#endif
+
+#endif

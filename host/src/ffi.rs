@@ -1,0 +1,65 @@
+//! The archive's C calls, and the only unsafe code: a slice passes as a pointer and a length in elements.
+#![allow(unsafe_code)]
+
+mod capi {
+    extern "C" {
+        pub fn macaroosh_run(
+            bundle: *const u8,
+            bundle_length: usize,
+            standing: *const u8,
+            standing_length: usize,
+            words: *mut u64,
+            words_length: usize,
+        ) -> u64;
+        pub fn macaroosh_translate(
+            bundle: *const u8,
+            bundle_length: usize,
+            standing: *const u8,
+            standing_length: usize,
+            out: *mut u8,
+            out_length: usize,
+        ) -> u64;
+        pub fn macaroosh_first_step(
+            bundle: *const u8,
+            bundle_length: usize,
+            standing: *const u8,
+            standing_length: usize,
+        ) -> u64;
+    }
+}
+
+/// The packed answer of a run.
+pub fn run(bundle: &[u8], standing: &[u8], words: &mut [u64]) -> u64 {
+    // SAFETY: each pointer and length are of one live slice, and the call is proved to stay inside of them.
+    unsafe {
+        capi::macaroosh_run(
+            bundle.as_ptr(),
+            bundle.len(),
+            standing.as_ptr(),
+            standing.len(),
+            words.as_mut_ptr(),
+            words.len(),
+        )
+    }
+}
+
+/// The packed answer of a translation.
+pub fn translate(bundle: &[u8], standing: &[u8], out: &mut [u8]) -> u64 {
+    // SAFETY: as above.
+    unsafe {
+        capi::macaroosh_translate(
+            bundle.as_ptr(),
+            bundle.len(),
+            standing.as_ptr(),
+            standing.len(),
+            out.as_mut_ptr(),
+            out.len(),
+        )
+    }
+}
+
+/// The packed step.
+pub fn first_step(bundle: &[u8], standing: &[u8]) -> u64 {
+    // SAFETY: as above.
+    unsafe { capi::macaroosh_first_step(bundle.as_ptr(), bundle.len(), standing.as_ptr(), standing.len()) }
+}

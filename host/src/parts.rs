@@ -1,0 +1,137 @@
+//! The parts of a bundle that the library has read, for showing: what its bytes and its words say.
+
+use crate::answer::Step;
+
+/// A bundle by its parts.
+#[derive(Debug)]
+pub struct Parts<'a> {
+    /// All boards.
+    pub n: usize,
+    /// The bound on faulty boards.
+    pub t: usize,
+    /// The faulty boards.
+    pub f: usize,
+    /// Whether it is in counting form.
+    pub counting: bool,
+    /// How many types of message the table in use has.
+    pub types: usize,
+    /// The start state of each correct board.
+    pub starts: &'a [u8],
+    front: &'a [u8],
+    states: &'a [u8],
+    rules: &'a [u8],
+    steps: &'a [u8],
+    numbers: &'a [u8],
+}
+
+/// What a configuration comes to in either form.
+#[derive(Clone, Debug, PartialEq, Eq)]
+pub struct Picture {
+    /// By board.
+    pub states: Vec<u64>,
+    /// By board and type: the correct and the faulty count.
+    pub received: Vec<Vec<(u32, u32)>>,
+    /// By type: how many boards have sent it.
+    pub sent: Vec<u32>,
+}
+
+impl<'a> Parts<'a> {
+    /// The parts, if the distances and counts fit each other as they do wherever the library does not refuse the reading.
+    pub fn of(bundle: &'a [u8], standing: &'a [u8]) -> Option<Parts<'a>> {
+        let (before, trailer) = cut(bundle, 8)?;
+        let (front, schedule) = cut(before, distance(trailer, 2))?;
+        let (starts, steps) = cut(schedule, distance(trailer, 0))?;
+        let (records, table) = cut(if front.is_empty() { standing } else { front }, 8)?;
+        let (states, rules) = cut(records, distance(table, 2))?;
+        let [n, t, f] = [4, 5, 6].map(|i| usize::from(trailer[i]));
+        let types = usize::from(table[6]);
+        let fits = f < n && n <= 64 && starts.len() == n - f && (1..=4).contains(&types);
+        let numbers = &trailer[4..];
+        let counting = trailer[7] == 1;
+        fits.then_some(Parts { n, t, f, counting, types, starts, front, states, rules, steps, numbers })
+    }
+
+    /// How many boards are correct.
+    pub fn correct(&self) -> usize {
+        self.n - self.f
+    }
+
+    /// How many words a run needs.
+    pub fn words(&self) -> usize {
+        let wide = if self.counting { 2 } else { 1 };
+        self.correct() + self.correct() * self.types * wide + self.types
+    }
+
+    /// How many steps the schedule has.
+    pub fn length(&self) -> usize {
+        self.steps.len() / 4
+    }
+
+    /// The steps.
+    pub fn steps(&self) -> impl Iterator<Item = Step> + 'a {
+        self.steps.chunks_exact(4).map(|s| Step::of([s[0], s[1], s[2], s[3]]))
+    }
+
+    /// The states that a rule leaves and enters.
+    pub fn ends(&self, rule: u8) -> Option<(u8, u8)> {
+        let at = usize::from(rule) * (2 + 3 * self.types);
+        Some((*self.rules.get(at)?, *self.rules.get(at + 1)?))
+    }
+
+    /// Whether a state is accepting.
+    pub fn accepting(&self, state: u64) -> bool {
+        self.states.get(2 * state as usize).map_or(false, |flags| flags & 2 == 2)
+    }
+
+    /// The type that a move between two states sends, if it sends a new one.
+    pub fn sends(&self, from: u8, to: u8) -> Option<usize> {
+        let mask = |state: u8| self.states.get(2 * usize::from(state) + 1).copied().unwrap_or(0);
+        let new = mask(to) & !mask(from);
+        (0..self.types).find(|m| new >> m & 1 == 1)
+    }
+
+    /// The bytes of the bundle with its first `i` steps.
+    pub fn first(&self, i: usize) -> Vec<u8> {
+        let steps = &self.steps[..self.steps.len().min(4 * i)];
+        let distances = [steps.len(), steps.len() + self.starts.len()].map(|d| (d as u16).to_le_bytes());
+        [self.front, self.starts, steps, &distances[0], &distances[1], self.numbers].concat()
+    }
+
+    /// What a run's words say; words past the lent ones count as 0.
+    pub fn picture(&self, words: &[u64]) -> Picture {
+        let word = |i: usize| words.get(i).copied().unwrap_or(0);
+        let (correct, types) = (self.correct(), self.types);
+        let below = u64::MAX >> (64 - correct);
+        let split = |set: u64| ((set & below).count_ones(), (set & !below).count_ones());
+        let received = |p: usize, m: usize| {
+            let cell = p * types + m;
+            if self.counting {
+                (word(correct + 2 * cell) as u32, word(correct + 2 * cell + 1) as u32)
+            } else {
+                split(word(correct + cell))
+            }
+        };
+        let sent = |m: usize| {
+            let last = word(self.words() - types + m);
+            if self.counting {
+                last as u32
+            } else {
+                last.count_ones()
+            }
+        };
+        Picture {
+            states: (0..correct).map(word).collect(),
+            received: (0..correct).map(|p| (0..types).map(|m| received(p, m)).collect()).collect(),
+            sent: (0..types).map(sent).collect(),
+        }
+    }
+}
+
+// The bytes before the last `length`, and those.
+fn cut(bytes: &[u8], length: usize) -> Option<(&[u8], &[u8])> {
+    bytes.len().checked_sub(length).map(|at| bytes.split_at(at))
+}
+
+fn distance(trailer: &[u8], at: usize) -> usize {
+    usize::from(u16::from_le_bytes([trailer[at], trailer[at + 1]]))
+}

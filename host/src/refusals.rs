@@ -1,0 +1,89 @@
+//! The outline's table of refusals in words.
+
+use crate::answer::Refusal;
+
+/// What a refusal's place counts, always from 0.
+#[derive(Clone, Copy, Debug, PartialEq, Eq)]
+pub enum Place {
+    /// No place is named.
+    None,
+    /// A state of the table.
+    State,
+    /// A rule of the table.
+    Rule,
+    /// A board whose start is meant.
+    Board,
+    /// A step of the schedule.
+    Step,
+}
+
+/// A line of the outline's table.
+#[derive(Debug)]
+pub struct Line {
+    /// The refusal's number.
+    pub number: u8,
+    /// What its place counts.
+    pub place: Place,
+    /// When it is given.
+    pub when: &'static str,
+}
+
+const fn line(number: u8, place: Place, when: &'static str) -> Line {
+    Line { number, place, when }
+}
+
+/// Every refusal, in the order of the checks.
+pub const ALL: [Line; 21] = [
+    line(40, Place::None, "the input is over 17,392 bytes (report program only)"),
+    line(10, Place::None, "the bundle is under 8 bytes"),
+    line(11, Place::None, "the schedule's second distance plus 8 exceeds the bundle"),
+    line(1, Place::None, "the table part is under 8 bytes"),
+    line(
+        2,
+        Place::None,
+        "a count in the table's trailer (1 to 16 states, 1 to 64 rules, 1 to 4 types) or k (1 to 8) is out of range",
+    ),
+    line(3, Place::None, "the table's distances disagree with its counts or its length"),
+    line(
+        4,
+        Place::State,
+        "the state has a flag above bit 1, a sent bit for no type, or is initial and has already sent",
+    ),
+    line(5, Place::None, "no state is initial"),
+    line(6, Place::Rule, "the rule's from or to is no state"),
+    line(7, Place::Rule, "the rule forgets a sent type"),
+    line(8, Place::Rule, "the rule sends two new types"),
+    line(12, Place::None, "n, t, f are not admitted (n in 1 to 64, n > k·t, f ≤ t), or the form is over 1"),
+    line(
+        13,
+        Place::None,
+        "the step distance is no multiple of 4 or over 16,384, or the second distance is not that plus n - f",
+    ),
+    line(14, Place::Board, "the board's start is not an initial state"),
+    line(30, Place::None, "the lent output is shorter than what is needed"),
+    line(20, Place::Step, "the board is not below n - f"),
+    line(21, Place::Step, "the rule is not in the table"),
+    line(22, Place::Step, "the rule does not leave the board's state"),
+    line(23, Place::Step, "type or source is out of range, or only one of the two is 255"),
+    line(24, Place::Step, "the message is not in transit"),
+    line(25, Place::Step, "a threshold is not met"),
+];
+
+/// The line of a number.
+pub fn of(number: u8) -> Option<&'static Line> {
+    ALL.iter().find(|line| line.number == number)
+}
+
+/// The refusal in words, as `refused 24 at step 4: the message is not in transit`.
+pub fn told(refusal: Refusal) -> String {
+    let Refusal { number, place } = refusal;
+    let (counted, when) =
+        of(number).map_or((Place::None, "a number that the outline does not name"), |l| (l.place, l.when));
+    match counted {
+        Place::None => format!("refused {number}: {when}"),
+        Place::State => format!("refused {number} at state {place}: {when}"),
+        Place::Rule => format!("refused {number} at rule {place}: {when}"),
+        Place::Board => format!("refused {number} at board {place}: {when}"),
+        Place::Step => format!("refused {number} at step {place}: {when}"),
+    }
+}

@@ -1,0 +1,139 @@
+//! Answers as people read them, and as programs do.
+
+use macaroosh::parts::{Parts, Picture};
+use macaroosh::{Answer, First, Refusal, Step};
+
+/// The report program's first line.
+pub fn result(answer: Answer) -> String {
+    format!("result {} {} {}\n", answer.refusal, answer.place, answer.count)
+}
+
+/// The report program's other lines.
+pub fn lines(picture: &Picture) -> String {
+    let boards: String = (0..picture.states.len()).map(|p| board_line(picture, p)).collect();
+    boards + &sent_line(picture)
+}
+
+/// The report's line of one board.
+pub fn board_line(picture: &Picture, p: usize) -> String {
+    let counts: String = picture.received[p].iter().map(|(correct, faulty)| format!(" {correct} {faulty}")).collect();
+    format!("p {p} {}{counts}\n", picture.states[p])
+}
+
+/// The report's line of what was sent.
+pub fn sent_line(picture: &Picture) -> String {
+    let counts: String = picture.sent.iter().map(|count| format!(" {count}")).collect();
+    format!("sent{counts}\n")
+}
+
+/// The first step for programs: `result R P`, then `step B R T S` or `none`.
+pub fn first_lines(first: First) -> String {
+    match first {
+        Ok(Some(Step { board, rule, kind, source })) => format!("result 0 0\nstep {board} {rule} {kind} {source}\n"),
+        Ok(None) => "result 0 0\nnone\n".to_string(),
+        Err(Refusal { number, place }) => format!("result {number} {place}\nnone\n"),
+    }
+}
+
+/// The first step for people.
+pub fn first(parts: &Parts, step: Option<Step>) -> String {
+    let after = counted(parts.length(), "step");
+    match step {
+        None => format!("after {after} no step is possible\n"),
+        Some(step) => {
+            let (from, to) = parts.ends(step.rule).unwrap_or((0, 0));
+            let [board, rule, kind, source] = step.record();
+            let message = match source {
+                _ if step.silent() || !parts.counting => message(parts, step),
+                0 => format!("type {kind} from a correct board"),
+                _ => format!("type {kind} from a faulty board"),
+            };
+            format!(
+                "after {after} the first possible step is: board {board}, rule {rule} ({from} -> {to}), {message}\n\
+                 as bytes: {board:02X} {rule:02X} {kind:02X} {source:02X}\n"
+            )
+        }
+    }
+}
+
+/// The message of a step whose source is a sender.
+pub fn message(parts: &Parts, step: Step) -> String {
+    let Step { kind, source, .. } = step;
+    if step.silent() {
+        "no message".to_string()
+    } else if usize::from(source) < parts.correct() {
+        format!("type {kind} from board {source}")
+    } else {
+        format!("type {kind} from faulty {source}")
+    }
+}
+
+/// The form and the boards of a bundle in one line.
+pub fn setting(parts: &Parts) -> String {
+    let form = if parts.counting { "counting" } else { "message" };
+    let correct = parts.correct();
+    let boards = match (correct, parts.f) {
+        (1, 0) => "board 0 is correct".to_string(),
+        (_, 0) => format!("boards 0 to {} are correct", correct - 1),
+        (1, 1) => "board 0 is correct, 1 is faulty".to_string(),
+        (_, 1) => format!("boards 0 to {} are correct, {correct} is faulty", correct - 1),
+        (1, _) => format!("board 0 is correct, 1 to {} are faulty", parts.n - 1),
+        (_, _) => format!("boards 0 to {} are correct, {correct} to {} are faulty", correct - 1, parts.n - 1),
+    };
+    format!("{form} form, n = {}, t = {}, f = {}: {boards}", parts.n, parts.t, parts.f)
+}
+
+/// The configuration after so many steps.
+pub fn configuration(parts: &Parts, picture: &Picture, steps: u32) -> String {
+    let mut head = vec!["board".to_string(), "state".to_string()];
+    head.extend((0..parts.types).map(|m| format!("has type {m}")));
+    let mut rows = vec![head];
+    for (p, &in_state) in picture.states.iter().enumerate() {
+        let mut row = vec![p.to_string(), state(parts, in_state)];
+        row.extend(picture.received[p].iter().map(|&counts| sum(counts)));
+        rows.push(row);
+    }
+    let mut sent = vec!["sent".to_string(), String::new()];
+    sent.extend(picture.sent.iter().map(u32::to_string));
+    rows.push(sent);
+    let after = counted(steps as usize, "step");
+    format!(
+        "{}\nafter {after}: what each board has (from correct + faulty boards), and what was sent\n\n{}",
+        setting(parts),
+        aligned(&rows, &[1])
+    )
+}
+
+/// A state, and whether it is accepting.
+pub fn state(parts: &Parts, number: u64) -> String {
+    format!("{number}{}", if parts.accepting(number) { " accepting" } else { "" })
+}
+
+/// A board's counts of one type.
+pub fn sum((correct, faulty): (u32, u32)) -> String {
+    format!("{correct}+{faulty}")
+}
+
+/// A number of things: `1 step`, `5 steps`.
+pub fn counted(number: usize, thing: &str) -> String {
+    format!("{number} {thing}{}", if number == 1 { "" } else { "s" })
+}
+
+/// Rows of cells as columns, to the right but for those named.
+pub fn aligned(rows: &[Vec<String>], to_the_left: &[usize]) -> String {
+    let columns = rows.iter().map(Vec::len).max().unwrap_or(0);
+    let wide = |c: usize| rows.iter().filter_map(|row| row.get(c)).map(|cell| cell.chars().count()).max().unwrap_or(0);
+    let widths: Vec<usize> = (0..columns).map(wide).collect();
+    let mut text = String::new();
+    for row in rows {
+        let mut line = String::new();
+        for (c, cell) in row.iter().enumerate() {
+            let width = widths[c];
+            line += if c == 0 { "" } else { "  " };
+            line += &if to_the_left.contains(&c) { format!("{cell:<width$}") } else { format!("{cell:>width$}") };
+        }
+        text += line.trim_end();
+        text += "\n";
+    }
+    text
+}

@@ -1,0 +1,204 @@
+//! The comparison can fail: each broken bench differs from the library on some seeded bundle. The first five are the
+//! outline's slips that look harmless, the others what it asks to be caught.
+
+use macaroosh::bundles::{case, Dice};
+use macaroosh::compare::compare;
+use macaroosh::model::{Bundle, Configuration, Messages, Model, Outline};
+use macaroosh::{Answer, Bench, First, Library, Refusal, Step};
+
+// The first seed whose bundle shows the difference.
+fn caught(broken: &dyn Bench) -> Option<u64> {
+    (1..=2_000).find(|&seed| {
+        let dice = &mut Dice::new(seed);
+        let (bundle, standing) = case(dice);
+        compare(broken, &Library, &bundle, &standing, dice).is_err()
+    })
+}
+
+// One joint count against sent plus f.
+struct JointCount;
+
+impl Outline for JointCount {
+    fn in_transit(&self, bundle: &Bundle, before: &Configuration, step: Step) -> bool {
+        let (p, m) = (usize::from(step.board), usize::from(step.kind));
+        match (&before.received[p][m], &before.sent[m]) {
+            (Messages::Counts(correct, faulty), Messages::Counts(sent, _)) => correct + faulty < sent + bundle.f,
+            _ => Model.in_transit(bundle, before, step),
+        }
+    }
+}
+
+// Thresholds before the receipt.
+struct CountsBefore;
+
+impl Outline for CountsBefore {
+    fn counted(&self, before: usize, _receives: bool) -> usize {
+        before
+    }
+}
+
+// A board hears its own echo in the step that sends it.
+struct HearsItself;
+
+impl Outline for HearsItself {
+    fn in_transit(&self, bundle: &Bundle, before: &Configuration, step: Step) -> bool {
+        let mut after = before.clone();
+        bundle.apply(&mut after, Step { kind: 255, source: 255, ..step });
+        Model.in_transit(bundle, &after, step)
+    }
+}
+
+// Byte FF is 255.
+struct Unsigned;
+
+impl Outline for Unsigned {
+    fn threshold(&self, bundle: &Bundle, coefficients: [i8; 3]) -> i64 {
+        let [a, b, d] = coefficients.map(|c| i64::from(c as u8));
+        a * bundle.n as i64 + b * bundle.t as i64 + d
+    }
+}
+
+// A sender is checked against all n and not against the received set: one echo counts twice.
+struct EchoTwice;
+
+impl Outline for EchoTwice {
+    fn in_transit(&self, bundle: &Bundle, before: &Configuration, step: Step) -> bool {
+        let q = usize::from(step.source);
+        match &before.sent[usize::from(step.kind)] {
+            Messages::Set(sent) => q < bundle.n && (q >= bundle.correct() || sent.contains(&q)),
+            _ => Model.in_transit(bundle, before, step),
+        }
+    }
+}
+
+// The model, but for one of its calls.
+struct But {
+    run: fn(&[u8], &[u8], &mut [u64]) -> Answer,
+    translate: fn(&[u8], &[u8], &mut [u8]) -> Answer,
+    first_step: fn(&[u8], &[u8]) -> First,
+}
+
+const SOUND: But = But {
+    run: |bundle, standing, words| Model.run(bundle, standing, words),
+    translate: |bundle, standing, out| Model.translate(bundle, standing, out),
+    first_step: |bundle, standing| Model.first_step(bundle, standing),
+};
+
+impl Bench for But {
+    fn run(&self, bundle: &[u8], standing: &[u8], words: &mut [u64]) -> Answer {
+        (self.run)(bundle, standing, words)
+    }
+
+    fn translate(&self, bundle: &[u8], standing: &[u8], out: &mut [u8]) -> Answer {
+        (self.translate)(bundle, standing, out)
+    }
+
+    fn first_step(&self, bundle: &[u8], standing: &[u8]) -> First {
+        (self.first_step)(bundle, standing)
+    }
+}
+
+// Answers as it should, and writes nothing.
+fn idle_run(bundle: &[u8], standing: &[u8], words: &mut [u64]) -> Answer {
+    Model.run(bundle, standing, &mut words.to_vec())
+}
+
+// The first step truly, the others only counted.
+fn counted_up(bundle: &[u8], standing: &[u8], words: &mut [u64]) -> Answer {
+    let answer = Model.run(bundle, standing, words);
+    if answer.refusal == 0 && answer.count > 1 {
+        let trailer = bundle.len() - 8;
+        let steps = trailer - 4 * answer.count as usize;
+        let mut one = bundle[..steps + 4].to_vec();
+        let starts = usize::from(bundle[trailer + 4] - bundle[trailer + 6]);
+        one.extend([4, 0, (4 + starts) as u8, 0]);
+        one.extend(&bundle[trailer + 4..]);
+        Model.run(&one, standing, words);
+    }
+    answer
+}
+
+fn made_up_count(bundle: &[u8], standing: &[u8], words: &mut [u64]) -> Answer {
+    let answer = Model.run(bundle, standing, words);
+    Answer { count: if answer.refusal == 24 { answer.count + 1 } else { answer.count }, ..answer }
+}
+
+// Clears all the words that were lent.
+fn writes_past(bundle: &[u8], standing: &[u8], words: &mut [u64]) -> Answer {
+    let answer = Model.run(bundle, standing, words);
+    if answer.left_a_configuration() {
+        if let Some(last) = words.last_mut() {
+            *last = 0;
+        }
+    }
+    answer
+}
+
+fn refuses_all(_: &[u8], _: &[u8], _: &mut [u64]) -> Answer {
+    Answer { refusal: 10, place: 0, count: 0 }
+}
+
+fn only_the_form_byte(bundle: &[u8], standing: &[u8], out: &mut [u8]) -> Answer {
+    let answer = Model.translate(bundle, standing, out);
+    if answer.refusal == 0 {
+        let form = out[bundle.len() - 1];
+        out[..bundle.len()].copy_from_slice(bundle);
+        out[bundle.len() - 1] = form;
+    }
+    answer
+}
+
+// Writes what it has before it meets the refused step.
+fn half_written(bundle: &[u8], standing: &[u8], out: &mut [u8]) -> Answer {
+    let answer = Model.translate(bundle, standing, out);
+    if (20..30).contains(&answer.refusal) {
+        out[bundle.len() - 1] ^= 1;
+    }
+    answer
+}
+
+fn always_none(bundle: &[u8], standing: &[u8]) -> First {
+    Model.first_step(bundle, standing).map(|_| None)
+}
+
+fn place_lost(bundle: &[u8], standing: &[u8]) -> First {
+    Model.first_step(bundle, standing).map_err(|refusal| Refusal { place: 0, ..refusal })
+}
+
+#[test]
+fn every_broken_bench_is_caught() {
+    let broken: [(&str, &dyn Bench); 14] = [
+        ("a joint count", &JointCount),
+        ("thresholds before the receipt", &CountsBefore),
+        ("hears its own echo at once", &HearsItself),
+        ("byte FF as 255", &Unsigned),
+        ("an echo counted twice", &EchoTwice),
+        ("refuses everything", &But { run: refuses_all, ..SOUND }),
+        ("an idle body", &But { run: idle_run, ..SOUND }),
+        ("one step, then only counts", &But { run: counted_up, ..SOUND }),
+        ("a made-up count", &But { run: made_up_count, ..SOUND }),
+        ("writes past the room", &But { run: writes_past, ..SOUND }),
+        ("only the form byte", &But { translate: only_the_form_byte, ..SOUND }),
+        ("a refused translation half written", &But { translate: half_written, ..SOUND }),
+        ("always none", &But { first_step: always_none, ..SOUND }),
+        ("the place lost", &But { first_step: place_lost, ..SOUND }),
+    ];
+    for (name, bench) in broken {
+        let seed = caught(bench).unwrap_or_else(|| panic!("not caught: {name}"));
+        println!("{name}: seed {seed}");
+    }
+}
+
+#[test]
+fn a_sound_bench_is_not_caught() {
+    assert_eq!(caught(&SOUND), None);
+}
+
+#[test]
+fn an_echo_counted_twice_lets_board_2_accept() {
+    // P5: refused 24 at step 4 by the outline.
+    let twice = b"\x01\x01\x01\x00\x03\xFF\xFF\x01\x03\xFF\xFF\x02\x03\x00\x00\x02\x04\x00\x03\x02\x05\x00\x00\x14\x00\x17\x00\x04\x01\x01\x00";
+    let run = |bench: &dyn Bench| bench.run(twice, &macaroosh::ECHO, &mut [0; 7]);
+    assert_eq!(run(&EchoTwice), Answer { refusal: 0, place: 0, count: 5 });
+    assert_eq!(run(&Library), Answer { refusal: 24, place: 4, count: 4 });
+}

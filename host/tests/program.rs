@@ -1,0 +1,377 @@
+//! The program: its commands, its refusals in words, mistakes of its user, and what becomes of files.
+
+use macaroosh::bundles::{any, Dice};
+use macaroosh::model::report;
+use macaroosh::MOST_BYTES;
+use std::ffi::OsStr;
+use std::fs::{self, File};
+use std::io::{Read, Write};
+use std::path::{Path, PathBuf};
+use std::process::{Command, Output, Stdio};
+
+const PROGRAM: &str = env!("CARGO_BIN_EXE_macaroosh");
+
+// The program, under the emulator where the build was for another processor.
+fn program() -> Command {
+    match std::env::var_os("MACAROOSH_RUNNER") {
+        Some(runner) => {
+            let mut command = Command::new(runner);
+            command.arg(PROGRAM);
+            command
+        }
+        None => Command::new(PROGRAM),
+    }
+}
+
+fn example(name: &str) -> PathBuf {
+    Path::new(env!("CARGO_MANIFEST_DIR")).join("../examples").join(name)
+}
+
+// An empty folder for a test.
+fn room(name: &str) -> PathBuf {
+    let room = Path::new(env!("CARGO_TARGET_TMPDIR")).join(name);
+    let _ = fs::remove_dir_all(&room);
+    fs::create_dir_all(&room).expect("a folder");
+    room
+}
+
+fn asked<S: AsRef<OsStr>>(words: &[S]) -> Output {
+    program().args(words).stdin(Stdio::null()).output().expect("the program starts")
+}
+
+fn asked_with_input(words: &[&str], input: &[u8]) -> Output {
+    let mut command = program();
+    command.args(words).stdin(Stdio::piped()).stdout(Stdio::piped()).stderr(Stdio::piped());
+    let mut child = command.spawn().expect("the program starts");
+    // It stops reading past its limit; a closed pipe is no fault of the test.
+    let _ = child.stdin.take().expect("its input").write_all(input);
+    child.wait_with_output().expect("the program ends")
+}
+
+fn text(bytes: &[u8]) -> &str {
+    std::str::from_utf8(bytes).expect("text")
+}
+
+#[track_caller]
+fn says(words: &[&str], bundle: &str, status: i32, output: &str, error: &str) {
+    let path = example(bundle);
+    let mut all: Vec<&OsStr> = words.iter().map(OsStr::new).collect();
+    all.push(path.as_os_str());
+    let got = asked(&all);
+    assert_eq!((got.status.code(), text(&got.stdout), text(&got.stderr)), (Some(status), output, error));
+}
+
+const TWICE: &str = "\
+refused 24 at step 4: the message is not in transit
+that step is board 2, rule 5, type 0, source 0
+";
+
+#[test]
+fn run_shows_the_configuration() {
+    let shown = "\
+message form, n = 4, t = 1, f = 1: boards 0 to 2 are correct, 3 is faulty
+after 5 steps: what each board has (from correct + faulty boards), and what was sent
+
+board  state        has type 0
+    0  2                   0+0
+    1  2                   0+0
+    2  3 accepting         2+1
+ sent                        3
+";
+    says(&["run"], "w.bundle", 0, shown, "");
+    says(&["run"], "w-counting.bundle", 0, &shown.replace("message form", "counting form"), "");
+    let plain = "result 0 0 5\np 0 2 0 0\np 1 2 0 0\np 2 3 2 1\nsent 3\n";
+    says(&["run", "--plain"], "w.bundle", 0, plain, "");
+    says(&["--plain", "run"], "w-counting.bundle", 0, plain, "");
+}
+
+#[test]
+fn a_refused_run_shows_what_it_left() {
+    let shown = "\
+message form, n = 4, t = 1, f = 1: boards 0 to 2 are correct, 3 is faulty
+after 4 steps: what each board has (from correct + faulty boards), and what was sent
+
+board  state  has type 0
+    0  2             0+0
+    1  2             0+0
+    2  2             1+1
+ sent                  3
+";
+    says(&["run"], "w-echo-twice.bundle", 1, shown, TWICE);
+    let plain = "result 24 4 4\np 0 2 0 0\np 1 2 0 0\np 2 2 1 1\nsent 3\n";
+    says(&["run", "--plain"], "w-echo-twice.bundle", 1, plain, "");
+}
+
+#[test]
+fn trace_shows_each_step() {
+    let shown = "\
+message form, n = 4, t = 1, f = 1: boards 0 to 2 are correct, 3 is faulty
+boards start in states 1 1 1
+after each step: what its board has (from correct + faulty boards), and what was sent
+
+step  board  rule  from -> to           receives              sends   has type 0  sent type 0
+   0      0     3     1 -> 2            no message            type 0         0+0            1
+   1      1     3     1 -> 2            no message            type 0         0+0            2
+   2      2     3     1 -> 2            type 0 from board 0   type 0         1+0            3
+   3      2     4     2 -> 2            type 0 from faulty 3                 1+1            3
+   4      2     5     2 -> 3 accepting  type 0 from board 1                  2+1            3
+";
+    says(&["trace"], "w.bundle", 0, shown, "");
+    // For a counting schedule the tag, and the sender that the translation chooses.
+    let counting = text(&asked(&[OsStr::new("trace"), example("w-counting.bundle").as_os_str()]).stdout).to_string();
+    let senders = [("no message", ""), ("no message", ""), ("board 0", "0 correct"), ("faulty 3", "1 faulty")];
+    for (line, (sender, tag)) in counting.lines().skip(6).zip(senders) {
+        assert!(line.contains(sender) && line.contains(tag), "{line}");
+    }
+    assert_eq!(counting.lines().count(), 11);
+}
+
+#[test]
+fn trace_for_programs_names_both_forms() {
+    let start = "start 1 1 1\nstep 0 0 3 255 255 255\np 0 2 0 0\nsent 1\nstep 1 1 3 255 255 255\np 1 2 0 0\nsent 2\n";
+    let message = "step 2 2 3 0 0 0\np 2 2 1 0\nsent 3\nstep 3 2 4 0 3 1\np 2 2 1 1\nsent 3\n";
+    let counting = message.replace("step 3 2 4 0 3 1", "step 3 2 4 0 1 3");
+    let accepts = "p 2 3 2 1\nsent 3\n";
+    let all = format!("result 0 0 5\n{start}{message}step 4 2 5 0 1 0\n{accepts}");
+    says(&["trace", "--plain"], "w.bundle", 0, &all, "");
+    let all = format!("result 0 0 5\n{start}{counting}step 4 2 5 0 0 1\n{accepts}");
+    says(&["trace", "--plain"], "w-counting.bundle", 0, &all, "");
+    let all = format!("result 24 4 4\n{start}{message}");
+    says(&["trace", "--plain"], "w-echo-twice.bundle", 1, &all, "");
+}
+
+#[test]
+fn a_refused_trace_shows_the_steps_before() {
+    let words = [OsStr::new("trace").to_owned(), example("w-echo-twice.bundle").into_os_string()];
+    let got = asked(&words);
+    assert_eq!((got.status.code(), text(&got.stderr)), (Some(1), TWICE));
+    let last = text(&got.stdout).lines().last().expect("a line").to_string();
+    assert!(last.starts_with("   3      2     4     2 -> 2   type 0 from faulty 3"), "{last}");
+}
+
+#[test]
+fn trace_of_two_types_has_their_counts_apart() {
+    let words = ["--plain".into(), "trace".into(), example("ready.bundle").into_os_string()];
+    let plain = asked(&words);
+    assert_eq!(plain.status.code(), Some(0));
+    assert!(text(&plain.stdout).ends_with("step 21 0 7 1 1 6\np 0 4 4 1 3 2\nsent 4 3\n"), "{}", text(&plain.stdout));
+}
+
+#[test]
+fn first_names_a_step_or_none() {
+    let shown =
+        "after 5 steps the first possible step is: board 0, rule 4 (2 -> 2), no message\nas bytes: 00 04 FF FF\n";
+    says(&["first"], "w.bundle", 0, shown, "");
+    says(&["first"], "w-counting.bundle", 0, shown, "");
+    says(&["first", "--plain"], "w.bundle", 0, "result 0 0\nstep 0 4 255 255\n", "");
+    says(&["first"], "w-echo-twice.bundle", 1, "", TWICE);
+    says(&["first", "--plain"], "w-echo-twice.bundle", 1, "result 24 4\nnone\n", "");
+    // One state, and its rule asks for a message that nobody sends.
+    let quiet = b"\x01\x00\x00\x00\x00\x00\x01\x07\x00\x05\x00\x01\x01\x01\x01\x00\x00\x00\x01\x00\x01\x00\x00\x00";
+    let got = asked_with_input(&["first", "-"], quiet);
+    assert_eq!((got.status.code(), text(&got.stdout)), (Some(0), "after 0 steps no step is possible\n"));
+    let got = asked_with_input(&["first", "-", "--plain"], quiet);
+    assert_eq!((got.status.code(), text(&got.stdout)), (Some(0), "result 0 0\nnone\n"));
+}
+
+#[test]
+fn translate_writes_the_other_form() {
+    let room = room("translate");
+    let bundle = |name: &str| fs::read(example(name)).expect("an example");
+    for (from, to, form) in
+        [("w.bundle", "w-counting.bundle", "counting"), ("w-counting.bundle", "w.bundle", "message")]
+    {
+        let got = asked(&[OsStr::new("translate"), example(from).as_os_str()]);
+        assert_eq!((got.status.code(), got.stdout), (Some(0), bundle(to)));
+        assert_eq!(text(&got.stderr), format!("wrote 31 bytes in {form} form\n"));
+        let out = room.join(form);
+        let words = ["translate".into(), "-o".into(), out.clone().into_os_string(), example(from).into_os_string()];
+        let got = asked(&words);
+        assert_eq!((got.status.code(), text(&got.stdout)), (Some(0), ""));
+        assert_eq!(text(&got.stderr), format!("wrote 31 bytes in {form} form to {}\n", out.display()));
+        assert_eq!(fs::read(&out).expect("the output"), bundle(to));
+    }
+    assert_eq!(fs::read_dir(&room).expect("the folder").count(), 2);
+    let got = asked_with_input(&["translate", "-", "--plain"], &bundle("w.bundle"));
+    assert_eq!((text(&got.stderr), got.stdout), ("result 0 0 31\n", bundle("w-counting.bundle")));
+    says(&["translate"], "w-echo-twice.bundle", 1, "", TWICE);
+    says(&["translate", "--plain"], "w-echo-twice.bundle", 1, "", "result 24 4 0\n");
+}
+
+#[test]
+fn a_standing_table_is_read_where_the_bundle_has_none() {
+    let echo = example("echo.table").into_os_string();
+    let words = |table| ["run".into(), "--plain".into(), "--standing".into(), table, example("w.bundle").into()];
+    assert!(text(&asked(&words(echo)).stdout).starts_with("result 0 0 5\n"));
+    let got = asked(&words(example("w.bundle").into_os_string()));
+    assert_eq!((got.status.code(), text(&got.stdout)), (Some(1), "result 2 0 0\n"));
+    let w = example("w.bundle");
+    let table = fs::read(example("echo.table")).expect("the table");
+    let got = asked_with_input(&["first", "--plain", "--standing", "-", w.to_str().expect("a name")], &table);
+    assert_eq!(text(&got.stdout), "result 0 0\nstep 0 4 255 255\n");
+}
+
+#[test]
+fn help_is_there() {
+    for words in [vec!["--help"], vec!["help"], vec!["run", "-h"]] {
+        let got = asked(&words);
+        assert_eq!((got.status.code(), text(&got.stderr)), (Some(0), ""));
+        assert!(text(&got.stdout).contains("macaroosh translate FILE"));
+    }
+    let got = asked::<&str>(&[]);
+    assert_eq!((got.status.code(), text(&got.stdout)), (Some(2), ""));
+    assert!(text(&got.stderr).contains("macaroosh translate FILE"));
+}
+
+// Bad use: nothing on standard output, and the words on standard error.
+#[track_caller]
+fn mistake<S: AsRef<OsStr>>(words: &[S], told: &str) {
+    let got = asked(words);
+    assert_eq!((got.status.code(), text(&got.stdout)), (Some(2), ""));
+    assert!(text(&got.stderr).contains(told), "{}", text(&got.stderr));
+}
+
+#[test]
+fn wrong_words_are_told() {
+    mistake(&["rnu", "x"], "there is no command 'rnu'; the commands are run, trace, first, translate");
+    mistake(&["run", "--plian", "x"], "there is no option '--plian'");
+    mistake(&["run"], "which bundle?");
+    mistake(&["--plain"], "which command: run, trace, first or translate?");
+    mistake(&["run", "x", "y"], "'y' is one word too many");
+    mistake(&["run", "x", "-o"], "-o needs a file after it");
+    mistake(&["run", "x", "--standing"], "--standing needs a file after it");
+    mistake(&["run", "x", "-o", "a", "-o", "b"], "-o is given twice");
+    mistake(&["run", "-", "--standing", "-"], "only one of bundle and standing table");
+    mistake(&["run", "--", "--plain"], "cannot read '--plain': No such file");
+}
+
+#[test]
+fn wrong_files_are_told() {
+    let room = room("wrong-files");
+    mistake(&[OsStr::new("run"), room.join("nothing").as_os_str()], "cannot read");
+    mistake(&[OsStr::new("run"), room.as_os_str()], "Is a directory");
+    let w = example("w.bundle").into_os_string();
+    mistake(&["run".into(), "--standing".into(), room.join("nothing").into_os_string(), w.clone()], "cannot read");
+    let missing = room.join("nothing/out").into_os_string();
+    mistake(&["run".into(), w.clone(), "-o".into(), missing], "No such file or directory");
+    mistake(&["run".into(), w.clone(), "-o".into(), room.clone().into_os_string()], "Is a directory");
+    mistake(&["run".into(), w.clone(), "-o".into(), "/dev/full".into()], "No space left");
+    mistake(&["run".into(), w, "-o".into(), "".into()], "cannot write");
+    assert_eq!(fs::read_dir(&room).expect("the folder").count(), 0);
+}
+
+#[test]
+fn an_empty_file_is_refused() {
+    let room = room("empty-file");
+    let path = room.join("empty");
+    File::create(&path).expect("a file");
+    for command in ["run", "trace", "first", "translate"] {
+        let got = asked(&[OsStr::new(command), path.as_os_str()]);
+        assert_eq!((got.status.code(), text(&got.stdout)), (Some(1), ""));
+        assert_eq!(text(&got.stderr), "refused 10: the bundle is under 8 bytes\n");
+    }
+}
+
+#[test]
+fn a_gigabyte_is_not_read() {
+    let room = room("gigabyte");
+    let path = room.join("gigabyte");
+    File::create(&path).and_then(|file| file.set_len(1 << 30)).expect("a file of holes");
+    mistake(&[OsStr::new("run"), path.as_os_str()], "is over 1048576 bytes; a bundle has at most 17392");
+    fs::remove_file(&path).expect("removed");
+    // Standard input that never ends.
+    let zeros = File::open("/dev/zero").expect("zeros");
+    let got = program().args(["trace", "-"]).stdin(zeros).output().expect("the program starts");
+    assert_eq!((got.status.code(), text(&got.stdout)), (Some(2), ""));
+    assert!(text(&got.stderr).contains("standard input is over 1048576 bytes"), "{}", text(&got.stderr));
+}
+
+#[test]
+fn a_bundle_past_the_largest_is_refused_and_not_a_mistake() {
+    let got = asked_with_input(&["run", "-", "--plain"], &vec![0; MOST_BYTES + 1]);
+    assert_eq!((got.status.code(), text(&got.stdout)), (Some(1), "result 2 0 0\n"));
+}
+
+#[test]
+fn an_existing_output_stays_until_the_new_one_is_whole() {
+    let room = room("existing-output");
+    let out = room.join("out");
+    fs::write(&out, "as it was").expect("a file");
+    let words = |bundle: &str| {
+        ["translate".into(), example(bundle).into_os_string(), "-o".into(), out.clone().into_os_string()]
+    };
+    // Refused: nothing is written.
+    assert_eq!(asked(&words("w-echo-twice.bundle")).status.code(), Some(1));
+    assert_eq!(fs::read(&out).expect("the file"), b"as it was");
+    // No room on the device, by a limit on the size of files.
+    let mut limited = Command::new("sh");
+    limited.args(["-c", "trap '' XFSZ; ulimit -f 0; exec \"$@\"", "sh"]);
+    limited.args(std::env::var_os("MACAROOSH_RUNNER")).arg(PROGRAM).args(words("w.bundle"));
+    let got = limited.output().expect("a shell");
+    assert_eq!((got.status.code(), text(&got.stdout)), (Some(2), ""));
+    assert!(text(&got.stderr).contains("cannot write"), "{}", text(&got.stderr));
+    assert_eq!(fs::read(&out).expect("the file"), b"as it was");
+    assert_eq!(fs::read_dir(&room).expect("the folder").count(), 1);
+    // Protected from writing.
+    let of = |readonly: bool| {
+        let mut permissions = fs::metadata(&out).expect("the file").permissions();
+        permissions.set_readonly(readonly);
+        fs::set_permissions(&out, permissions).expect("its permissions");
+    };
+    of(true);
+    mistake(&words("w.bundle"), "it may not be written");
+    assert_eq!(fs::read(&out).expect("the file"), b"as it was");
+    of(false);
+    // Whole: it is replaced, by way of a link too.
+    let link = room.join("link");
+    std::os::unix::fs::symlink("out", &link).expect("a link");
+    let linked = ["translate".into(), example("w.bundle").into_os_string(), "-o".into(), link.clone().into_os_string()];
+    assert_eq!(asked(&linked).status.code(), Some(0));
+    assert_eq!(fs::read(&out).expect("the file").len(), 31);
+    assert!(fs::symlink_metadata(&link).expect("the link").file_type().is_symlink());
+    assert_eq!(fs::read_dir(&room).expect("the folder").count(), 2);
+}
+
+#[test]
+fn output_may_replace_its_own_input() {
+    let room = room("own-input");
+    let path = room.join("w.bundle");
+    fs::copy(example("w.bundle"), &path).expect("a copy");
+    let words = ["translate".into(), path.clone().into_os_string(), "-o".into(), path.clone().into_os_string()];
+    assert_eq!(asked(&words).status.code(), Some(0));
+    assert_eq!(fs::read(&path).expect("the file"), fs::read(example("w-counting.bundle")).expect("the other"));
+}
+
+#[test]
+fn a_closed_pipe_ends_quietly() {
+    // 4,096 waits fill any pipe.
+    let mut bundle = vec![1, 0, 3, 255, 255];
+    bundle.extend([0, 4, 255, 255].iter().cycle().take(4 * 4_095));
+    bundle.extend([0x00, 0x40, 0x01, 0x40, 1, 0, 0, 0]);
+    let path = room("closed-pipe").join("long.bundle");
+    fs::write(&path, bundle).expect("a file");
+    let mut command = program();
+    command.arg("trace").arg(&path).stdout(Stdio::piped()).stderr(Stdio::piped());
+    let mut child = command.spawn().expect("the program starts");
+    let mut some = [0; 10];
+    let mut pipe = child.stdout.take().expect("its output");
+    pipe.read_exact(&mut some).expect("some of it");
+    drop(pipe);
+    let got = child.wait_with_output().expect("the program ends");
+    assert_eq!((got.status.code(), text(&got.stderr)), (Some(0), ""));
+}
+
+#[test]
+fn no_bundle_makes_it_stumble() {
+    for seed in 1..=100 {
+        let bundle = any(&mut Dice::new(seed));
+        let got = asked_with_input(&["run", "--plain", "-"], &bundle);
+        assert_eq!(text(&got.stdout), report(&bundle), "seed {seed}");
+        for command in ["run", "trace", "first", "translate"] {
+            let got = asked_with_input(&[command, "-"], &bundle);
+            let refused = !report(&bundle).starts_with("result 0 ");
+            assert_eq!(got.status.code(), Some(i32::from(refused)), "seed {seed}: {command}");
+            assert_eq!(text(&got.stderr).starts_with("refused "), refused, "seed {seed}: {command}");
+        }
+    }
+}

@@ -1,0 +1,94 @@
+/* The header from C: schedule W is run, translated there and back, and asked for its first step; refusals leave lent memory
+ * alone. The last line is 'N passed, M failed'. */
+#include "macaroosh.h"
+
+#include <stdio.h>
+#include <string.h>
+
+static const uint8_t echo[] = {
+    0x01, 0x00, 0x01, 0x00, 0x00, 0x01, 0x02, 0x01, 0x00, 0x00, 0x00, 0x00, 0x00, 0x00, 0x02, 0x00, 0x01,
+    0x01, 0x00, 0x03, 0x01, 0xFF, 0x00, 0x01, 0x02, 0x00, 0x00, 0x00, 0x02, 0x02, 0x00, 0x00, 0x00, 0x02,
+    0x03, 0x01, 0xFF, 0x00, 0x03, 0x03, 0x00, 0x00, 0x00, 0x2B, 0x00, 0x23, 0x00, 0x04, 0x07, 0x01, 0x03,
+};
+static const uint8_t w[] = {
+    0x01, 0x01, 0x01, 0x00, 0x03, 0xFF, 0xFF, 0x01, 0x03, 0xFF, 0xFF, 0x02, 0x03, 0x00, 0x00, 0x02,
+    0x04, 0x00, 0x03, 0x02, 0x05, 0x00, 0x01, 0x14, 0x00, 0x17, 0x00, 0x04, 0x01, 0x01, 0x00,
+};
+static const uint8_t counting[] = {
+    0x01, 0x01, 0x01, 0x00, 0x03, 0xFF, 0xFF, 0x01, 0x03, 0xFF, 0xFF, 0x02, 0x03, 0x00, 0x00, 0x02,
+    0x04, 0x00, 0x01, 0x02, 0x05, 0x00, 0x00, 0x14, 0x00, 0x17, 0x00, 0x04, 0x01, 0x01, 0x01,
+};
+
+static int passed, failed;
+
+static void check(const char *what, int holds) {
+    if (holds) {
+        passed++;
+    } else {
+        failed++;
+        printf("c: %s\n", what);
+    }
+}
+
+static int answers(uint64_t packed, unsigned refusal, uint32_t place, uint32_t count) {
+    return macaroosh_refusal(packed) == refusal && macaroosh_place(packed) == place && macaroosh_count(packed) == count;
+}
+
+static void runs(void) {
+    static const uint64_t message_words[] = {2, 2, 3, 0, 0, 11, 7, 99};
+    static const uint64_t counting_words[] = {2, 2, 3, 0, 0, 0, 0, 2, 1, 3, 99};
+    uint64_t words[MACAROOSH_MOST_WORDS];
+    size_t i;
+    for (i = 0; i < MACAROOSH_MOST_WORDS; i++) words[i] = 99;
+    check("W runs", answers(macaroosh_run(w, sizeof w, echo, sizeof echo, words, MACAROOSH_MOST_WORDS), 0, 0, 5));
+    check("W's words, and none past them", memcmp(words, message_words, sizeof message_words) == 0);
+    for (i = 0; i < MACAROOSH_MOST_WORDS; i++) words[i] = 99;
+    check("W in counting form runs", answers(macaroosh_run(counting, sizeof counting, echo, sizeof echo, words, 10), 0, 0, 5));
+    check("its words, and none past them", memcmp(words, counting_words, sizeof counting_words) == 0);
+}
+
+static void translations(void) {
+    uint8_t there[sizeof w], back[sizeof w];
+    check("W is translated", answers(macaroosh_translate(w, sizeof w, echo, sizeof echo, there, sizeof there), 0, 0, 31));
+    check("to its counting form", memcmp(there, counting, sizeof w) == 0);
+    check("and back", answers(macaroosh_translate(there, sizeof w, echo, sizeof echo, back, sizeof back), 0, 0, 31));
+    check("to itself", memcmp(back, w, sizeof w) == 0);
+}
+
+static void first_steps(void) {
+    uint64_t step = macaroosh_first_step(w, sizeof w, echo, sizeof echo);
+    check("a step is possible after W", macaroosh_refusal(step) == 0 && macaroosh_step_given(step));
+    check("it is 00 04 FF FF", macaroosh_step_board(step) == 0 && macaroosh_step_rule(step) == 4 &&
+                                   macaroosh_step_type(step) == 255 && macaroosh_step_source(step) == 255);
+}
+
+static void refusals(void) {
+    uint8_t twice[sizeof w], out[sizeof w], as_it_was[sizeof w];
+    uint64_t words[7] = {9, 9, 9, 9, 9, 9, 9};
+    static const uint64_t nines[7] = {9, 9, 9, 9, 9, 9, 9}, left[7] = {2, 2, 2, 0, 0, 9, 7};
+    uint64_t step;
+    memcpy(twice, w, sizeof w);
+    twice[22] = 0;
+    memset(out, 0xAA, sizeof out);
+    memset(as_it_was, 0xAA, sizeof as_it_was);
+    check("six words are too few", answers(macaroosh_run(w, sizeof w, echo, sizeof echo, words, 6), 30, 0, 0));
+    check("no standing table", answers(macaroosh_run(w, sizeof w, echo, 0, words, 7), 1, 0, 0));
+    check("no bundle", answers(macaroosh_run(w, 0, echo, sizeof echo, words, 7), 10, 0, 0));
+    check("the words stay", memcmp(words, nines, sizeof words) == 0);
+    check("an echo twice", answers(macaroosh_run(twice, sizeof twice, echo, sizeof echo, words, 7), 24, 4, 4));
+    check("the words are those after four steps", memcmp(words, left, sizeof words) == 0);
+    check("it is not translated", answers(macaroosh_translate(twice, sizeof twice, echo, sizeof echo, out, sizeof out), 24, 4, 0));
+    check("30 bytes are too few", answers(macaroosh_translate(w, sizeof w, echo, sizeof echo, out, 30), 30, 0, 0));
+    check("the bytes stay", memcmp(out, as_it_was, sizeof out) == 0);
+    step = macaroosh_first_step(twice, sizeof twice, echo, sizeof echo);
+    check("and has no first step", macaroosh_refusal(step) == 24 && macaroosh_step_place(step) == 4 && !macaroosh_step_given(step));
+}
+
+int main(void) {
+    runs();
+    translations();
+    first_steps();
+    refusals();
+    printf("%d passed, %d failed\n", passed, failed);
+    return failed != 0;
+}
