@@ -27,4 +27,4 @@ unfolding
     stateFault ruleFault recordsFault tableFault frontLength tableInUse startsOf stepsOf noTrailer outOfBundle notAdmitted stepsOff notInitial startFault scheduleFault
     faultWith size cellAt sentAt state cell sent hear tell start wide slot bump coll shown heard stepped malformed notInTransit notMet stepFault stepsIn run tagOf tagBy lowSender lowest lowAll least metAt ranWith
     ranAnswer runAnswer runWords bytesOf rewritten moved translationWith wrote translateAnswer translateBytes orElse seek tries first afterRun firstAnswer
-figures = (refl, (refl, (refl, (refl, (refl, (refl, ((refl, refl), ((refl, refl), ((refl, refl), ((refl, refl), ((refl, refl), ((refl, refl), ((refl, refl), ((refl, refl), ((refl, refl), (refl, (refl, (refl, (refl, (refl, ((refl, refl), ((refl, refl), ((refl, refl), ((refl, refl), (refl, (refl, (refl, tt)))))))))))))))))))))))))))
+figures = (refl, (refl, (refl, (refl, (refl, (refl, ((refl, refl), ((refl, refl), ((refl, refl), ((refl, refl), ((refl, refl), ((refl, refl), ((refl, refl), ((refl, refl), ((refl, refl), (refl, (refl, (refl, (refl, (refl, ((refl, refl), ((refl, refl), ((refl, refl), ((refl, refl), ((refl, refl), (refl, (refl, (refl, tt))))))))))))))))))))))))))))

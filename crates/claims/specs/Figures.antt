@@ -43,9 +43,12 @@ abbrev pub Every : List Case → Type 0
 Every [] = Unit {0}
 Every (c ∷ cs) = Holds c × Every cs
 
--- a schedule part in message form: start bytes, step bytes and the trailer
+-- a schedule part: start bytes, step bytes and the trailer
+abbrev scheduleIn : ℕ → List ℕ → List ℕ → ℕ → ℕ → ℕ → List ℕ
+scheduleIn form starts steps n t f = starts ++ (steps ++ (length steps ∷ 0 ∷ (length steps + length starts) ∷ 0 ∷ n ∷ t ∷ f ∷ form ∷ []))
+
 abbrev schedule : List ℕ → List ℕ → ℕ → ℕ → ℕ → List ℕ
-schedule starts steps n t f = starts ++ (steps ++ (length steps ∷ 0 ∷ (length steps + length starts) ∷ 0 ∷ n ∷ t ∷ f ∷ 0 ∷ []))
+schedule = scheduleIn 0
 
 abbrev pub cases : List Case
 cases =
@@ -83,6 +86,8 @@ cases =
     -- P10: a board can't hear its echo in the step that sends it; it can in the next
     runs (schedule (1 ∷ []) (0 ∷ 3 ∷ 0 ∷ 0 ∷ []) 1 0 0) echo 24 0 0 (1 ∷ 0 ∷ 0 ∷ []) ∷
     runs (schedule (1 ∷ []) (0 ∷ 3 ∷ 255 ∷ 255 ∷ 0 ∷ 5 ∷ 0 ∷ 0 ∷ []) 1 0 0) echo 0 0 2 (3 ∷ 1 ∷ 1 ∷ []) ∷
+    -- two correct echoes were sent and heard: a third is not in transit, whatever room a faulty one has
+    runs (scheduleIn 1 (1 ∷ 1 ∷ 1 ∷ []) (0 ∷ 3 ∷ 255 ∷ 255 ∷ 2 ∷ 3 ∷ 0 ∷ 0 ∷ 2 ∷ 4 ∷ 0 ∷ 0 ∷ 2 ∷ 4 ∷ 0 ∷ 0 ∷ []) 4 1 1) echo 24 3 3 (2 ∷ 1 ∷ 2 ∷ 0 ∷ 0 ∷ 0 ∷ 0 ∷ 2 ∷ 0 ∷ 2 ∷ []) ∷
     -- after W the first possible step is 00 04 FF FF, in both forms; after P5's refusal there is none
     firstOf W echo (First.Step 0 4 255 255) ∷
     firstOf WCounting echo (First.Step 0 4 255 255) ∷

@@ -3,3 +3,4 @@ pub mod Demand2
 pub mod Agreed
 pub mod FirstStep
 pub mod Demand3
+pub mod OneAnswer

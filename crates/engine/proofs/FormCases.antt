@@ -1,7 +1,12 @@
 -- A fact about the form's number, from the test `form == 0`.
 use mathlib.Core.Path.{_≡_, refl}
+use mathlib.Core.Bool.{_&&_, _||_, or-false}
 use Prim.Native.Nat.{ℕ, zero, suc, _+_, _≤_, _<_}
 use native.Mathlib.Omega.{arith}
+use lib.Dec.{eqb}
+use borrow.Author.Tests.{le-ltb, ne-eqb}
+use Rattle.fault.specs.Tests.{_below_}
+use Rattle.fault.specs.Fault.{_if_else_}
 use Rattle.paper.specs.Paper.{column}
 use Rattle.paper.specs.Form.{bump}
 
@@ -22,3 +27,10 @@ bump-own (suc k) C f p v = refl
 pub source-few : (k C f q : ℕ) → C + f ≤ 64 → q < column k C f .sources → q < 64
 source-few zero C f q h l = omega arith
 source-few (suc k) C f q h l = omega arith
+
+-- in transit by the tag: its count against its limit
+pub by-tag : {x y : ℕ} (q v w out f : ℕ) → x ≡ (v if eqb q 0 else w) → y ≡ (out if eqb q 0 else f) → (q below 2 && x below y) ≡ (eqb q 0 && v below out || eqb q 1 && w below f)
+unfolding _if_else_
+by-tag zero v w out f e g = rw (e, g, or-false)
+by-tag (suc zero) v w out f e g = rw (e, g)
+by-tag (suc (suc q)) v w out f e g = rw (le-ltb (suc (suc q)) 2 (omega arith), ne-eqb (suc (suc q)) 0 (omega arith), ne-eqb (suc (suc q)) 1 (omega arith))

@@ -1,6 +1,7 @@
 // The form, on numbers: what the words of a cell and a sent word come to. Nothing above looks at the form's number.
 ghost use mathlib.Core.Path.{_≡_};
 ghost use Prim.Native.Nat.{_+_, _≤_, _<_};
+ghost use Rattle.fault.specs.Fault.{_if_else_};
 ghost use Rattle.paper.specs.Paper.{passing, counting, column};
 ghost use Rattle.paper.specs.Form.{two, coll, shown};
 ghost use Rattle.paper.specs.Form as forms;
@@ -76,5 +77,12 @@ fn set_in_transit(c: usize, f: usize, q: usize, got: u64, out: u64) -> bool
 fn count_in_transit(c: usize, f: usize, q: usize, v: u64, w: u64, out: u64) -> bool
     ensures { λ r. ⌜ r ≡ counting c f .inTransit q (coll 1 c f (two v w)) (shown 1 c f out) ⌝ }
 {
-    ((q == 0) & (v < out)) | ((q == 1) & (w < f as u64))
+    (q < 2) & (choose(q == 0, v, w) < choose(q == 0, out, f as u64))
+}
+
+// The first where the test says yes, and else the second.
+fn choose(test: bool, x: u64, y: u64) -> u64
+    ensures { λ r. ⌜ r ≡ (x if test else y) ⌝ }
+{
+    if test { x } else { y }
 }

@@ -79,7 +79,7 @@ fn at_least(x: usize, limit: usize) -> bool
 }
 
 // 22: the state that stands at `at` in the table is not the board's.
-fn other_state(table: &[u8], at: usize, w: &[u64], p: usize) -> bool
+pub fn other_state(table: &[u8], at: usize, w: &[u64], p: usize) -> bool
     requires { ⌜ (at < length (now table)) × (p < length (now w)) ⌝ }
     ensures { λ b. ⌜ b ≡ (words.state (now (w .entry)) p differs byteAt (now (table .entry)) at) ⌝ }
 {
@@ -114,7 +114,7 @@ fn not_in_transit(s: Sizes, w: &[u64], p: usize, m: usize, q: usize) -> bool
 }
 
 // 25, by the counts after the receipt; the coefficients stand from `at` on.
-fn not_met(table: &[u8], s: Sizes, w: &[u64], p: usize, at: usize, m: usize) -> bool
+pub fn not_met(table: &[u8], s: Sizes, w: &[u64], p: usize, at: usize, m: usize) -> bool
     requires { ⌜ (Bounded s) × (p < s .correct) × (Holds s 1000000 (now w)) × (at + 3 * s .types ≤ length (now table)) ⌝ }
     ensures { λ b. ⌜ b ≡ not (every (s .types) (λ i. metAt (now (table .entry)) (at + 3 * i) (s .correct + s .faulty) (s .t) (countIn s (now (w .entry)) p i + digit (eqb m i)))) ⌝ }
 {
@@ -138,7 +138,7 @@ fn gain(m: usize, i: usize) -> u64
 }
 
 // The threshold whose three bytes stand at `at` is over the count.
-fn unmet(table: &[u8], s: Sizes, at: usize, count: u64) -> bool
+pub fn unmet(table: &[u8], s: Sizes, at: usize, count: u64) -> bool
     requires { ⌜ (Bounded s) × (at + 2 < length (now table)) × (count < 4294967296) ⌝ }
     ensures { λ b. ⌜ b ≡ not (metAt (now (table .entry)) at (s .correct + s .faulty) (s .t) count) ⌝ }
 {

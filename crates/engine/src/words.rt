@@ -16,11 +16,11 @@ pub fn room(s: Sizes) -> usize
     requires { ⌜ Bounded s ⌝ }
     ensures { λ r. ⌜ (r ≡ roomOf s) × (r ≤ 580) ⌝ }
 {
-    sent(s, 0) + s.types
+    sent_at(s, 0) + s.types
 }
 
 // Where the sent word of type m stands.
-pub fn sent(s: Sizes, m: usize) -> usize
+pub fn sent_at(s: Sizes, m: usize) -> usize
     requires { ⌜ (Bounded s) × (m ≤ s .types) ⌝ }
     ensures { λ r. ⌜ (r ≡ sentAt (s .correct) (s .types) (forms.wide (s .form)) m) × (r ≤ 576 + m) ⌝ }
 {
@@ -28,7 +28,7 @@ pub fn sent(s: Sizes, m: usize) -> usize
 }
 
 // Where the cell of board p for type m begins.
-pub fn cell(s: Sizes, p: usize, m: usize) -> usize
+pub fn cell_at(s: Sizes, p: usize, m: usize) -> usize
     requires { ⌜ (Bounded s) × (At s p m) ⌝ }
     ensures { λ r. ⌜ (r ≡ cellAt (s .correct) (s .types) (forms.wide (s .form)) p m 0) × (r + forms.wide (s .form) ≤ roomOf s) × (r ≤ 576) ⌝ }
 {
@@ -40,7 +40,7 @@ pub fn count(s: Sizes, w: &[u64], p: usize, m: usize) -> u64
     requires { ⌜ (Bounded s) × (At s p m) × (Holds s 1000000 (now w)) ⌝ }
     ensures { λ r. ⌜ (r ≡ countIn s (now (w .entry)) p m) × (r ≤ 2000000) ⌝ }
 {
-    let i = cell(s, p, m);
+    let i = cell_at(s, p, m);
     let j = i + form::slot(s.form, 1);
     form::card(s.form, s.correct, s.faulty, w[i], w[j])
 }
@@ -50,9 +50,9 @@ pub fn in_transit(s: Sizes, w: &[u64], p: usize, m: usize, q: usize) -> bool
     requires { ⌜ (Bounded s) × (At s p m) × (Source s q) × (length (now w) ≡ roomOf s) ⌝ }
     ensures { λ r. ⌜ r ≡ transitIn s (now (w .entry)) p m q ⌝ }
 {
-    let i = cell(s, p, m);
+    let i = cell_at(s, p, m);
     let j = i + form::slot(s.form, 1);
-    let k = sent(s, m);
+    let k = sent_at(s, m);
     form::in_transit(s.form, s.correct, s.faulty, q, w[i], w[j], w[k])
 }
 
@@ -61,7 +61,7 @@ pub fn hear(s: Sizes, w: &mut [u64], p: usize, m: usize, q: usize)
     requires { ⌜ (Bounded s) × (At s p m) × (Source s q) × (Holds s 1000000 (now w)) ⌝ }
     ensures { λ r. ⌜ now (w .exit) ≡ words.hear (s .correct) (s .types) (forms.wide (s .form)) p m (forms.slot (s .form) q) (forms.bump (s .form) q) (now (w .entry)) ⌝ }
 {
-    let i = cell(s, p, m) + form::slot(s.form, q);
+    let i = cell_at(s, p, m) + form::slot(s.form, q);
     w[i] = form::bump(s.form, q, w[i]);
 }
 
@@ -70,6 +70,6 @@ pub fn tell(s: Sizes, w: &mut [u64], p: usize, m: usize)
     requires { ⌜ (Bounded s) × (At s p m) × (Holds s 1000000 (now w)) ⌝ }
     ensures { λ r. ⌜ now (w .exit) ≡ set (now (w .entry)) (sentAt (s .correct) (s .types) (forms.wide (s .form)) m) (forms.bump (s .form) (columnIn s .own p) (words.sent (s .correct) (s .types) (forms.wide (s .form)) (now (w .entry)) m)) ⌝ }
 {
-    let i = sent(s, m);
+    let i = sent_at(s, m);
     w[i] = form::bump(s.form, p, w[i]);
 }

@@ -1,3 +1,4 @@
 pub mod SeekLaws
+pub mod TryLaws
 pub mod EntryLaws
 pub mod BoundLaws

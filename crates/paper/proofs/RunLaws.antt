@@ -6,7 +6,7 @@ use native.Mathlib.Nat.{not-suc-le-zero, le-of-suc-le-suc, add-zero}
 use native.Mathlib.Numerals.{add-one}
 use native.Mathlib.Omega.{arith}
 use lib.Dec.{eqb}
-use lib.ListN.{length, getD, take, drop}
+use lib.ListN.{length, getD, take, drop, drop-of-length-le}
 use lib.Seq.{drop-cons}
 use borrow.Author.Tests.{eq-eqb, ne-eqb}
 use Rattle.fault.specs.Fault.{_if_else_}
@@ -75,12 +75,6 @@ from-zero x = omega arith
 one-on : (i x : ℕ) → i + suc x ≡ suc i + x
 one-on i x = omega arith
 
-drop-none : (ss : List Step) (i : ℕ) → length ss ≤ i → drop i ss ≡ []
-drop-none [] zero h = refl
-drop-none [] (suc i) h = refl
-drop-none (s ∷ ss) zero h = absurd (omega arith)
-drop-none (s ∷ ss) (suc i) h = drop-none ss i (le-of-suc-le-suc h)
-
 same-ran : {a b : ℕ} (x : ℕ) (w : List ℕ) → a ≡ b → ranTo a x w ≡ ranTo b x w
 same-ran x w e = ap (λ (y : ℕ). ranTo y x w) e
 
@@ -106,7 +100,7 @@ module _ (k : ℕ) (d : Design) (w₀ : List ℕ) (ss : List Step) where
 
     pub running-ends : length ss ≤ i → run k d w₀ ss ≡ ranTo i 0 w
     unfolding run
-    running-ends h = S ∙ ap (λ (r : List Step). on i (run k d w r)) (drop-none ss i h) ∙ same-ran _ _ (add-zero i)
+    running-ends h = S ∙ ap (λ (r : List Step). on i (run k d w r)) (drop-of-length-le ss h) ∙ same-ran _ _ (add-zero i)
 
 -- ---- bounds: at most n steps are accepted, and no refusal is over 25
 pub record RanWithin (n : ℕ) (r : Ran) : Type 0 where

@@ -1,8 +1,9 @@
 -- The size of a signed number, `mag`, after a sum and after a product with a natural number: each a bound in ℕ, from which `omega` goes on.
 use mathlib.Core.Path.{_≡_, refl, ap}
 use mathlib.Core.Bool.{Bool, true, false}
-use Prim.Native.Nat.{ℕ, zero, suc, _+_, _-_, _*_, _^_, _≤_, _<_}
+use Prim.Native.Nat.{ℕ, zero, suc, _+_, _-_, _*_, _%_, _^_, _≤_, _<_}
 use native.Mathlib.Nat.{mul-le-mul, le-trans}
+use native.Mathlib.Decide.{decLt}
 use native.Mathlib.Omega.{arith}
 use lib.Dec.{ltb}
 use lib.IntN.{ℤ, pos, negsuc, negℤ, subℕ, _+ℤ_, _-ℤ_, _*ℤ_}
@@ -41,14 +42,19 @@ pub mag-mul : (z : ℤ) (n : ℕ) (A N : ℕ) → mag z < A → n ≤ N → mag 
 mag-mul (pos a) n A N ha hn = mul-le-mul (omega arith) hn
 mag-mul (negsuc a) n A N ha hn = le-trans (mag-neg (suc a * n)) (mul-le-mul ha hn)
 
-pub byte-low : (x : ℕ) → x < 128 → signedByte x ≡ pos x
+-- a byte moved up by 128, cut to eight bits and moved down again
+pub turned : (x : ℕ) → x < 256 → pos ((x + 128) % 256) -ℤ pos 128 ≡ signedByte x
 unfolding signedByte
-byte-low x h = rw (lt-ltb x 128 h)
+turned x h = go (decLt x 128)
+  where
+    go : Dec (x < 128) → pos ((x + 128) % 256) -ℤ pos 128 ≡ signedByte x
+    go (yes l) = let e : (x + 128) % 256 ≡ x + 128 = omega arith in rw (e, le-ltb (x + 128) 128 (omega arith), lt-ltb x 128 l) (ap pos (omega arith))
+    go (no l) = let e : (x + 128) % 256 ≡ x - 128 = omega arith in rw (e, lt-ltb (x - 128) 128 (omega arith), le-ltb x 128 (omega arith)) (ap negsuc (omega arith))
 
-pub byte-high : (x : ℕ) → 128 ≤ x → signedByte x ≡ negsuc (255 - x)
+pub byte-small : (x : ℕ) → x < 256 → mag (signedByte x) < 128
 unfolding signedByte
-byte-high x h = rw (le-ltb x 128 h)
-
--- the high half: a byte less 256
-pub down : (x : ℕ) → x < 256 → pos x -ℤ pos 256 ≡ negsuc (255 - x)
-down x h = rw (lt-ltb x 256 h) (ap negsuc (omega arith))
+byte-small x h = go (decLt x 128)
+  where
+    go : Dec (x < 128) → mag (signedByte x) < 128
+    go (yes l) = rw (lt-ltb x 128 l) l
+    go (no l) = rw (le-ltb x 128 (omega arith)) (omega arith)

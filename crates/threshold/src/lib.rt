@@ -25,7 +25,7 @@ fn scaled(x: u8, n: u64) -> i64
 fn signed(x: u8) -> i64
     ensures { λ r. ⌜ (r ≡ signedByte x) × (mag r < 128) ⌝ }
 {
-    if x < 128 { x as i64 } else { x as i64 - 256 }
+    ((x as u64 + 128) % 256) as i64 - 128
 }
 
 // The sum of two small numbers.

@@ -6,7 +6,7 @@ use native.Mathlib.Nat.{not-suc-le-zero, le-of-suc-le-suc}
 use native.Mathlib.Numerals.{add-one}
 use native.Mathlib.Decide.{ℕ-discrete}
 use native.Mathlib.Omega.{arith}
-use lib.ListN.{length, getD, set, drop}
+use lib.ListN.{length, set, drop, length-map}
 use lib.Seq.{drop-cons}
 use Rattle.paper.specs.Paper.{Design, Step}
 use Rattle.paper.specs.Step.{stepFault, stepped}
@@ -24,10 +24,6 @@ map-at f [] i h = absurd (not-suc-le-zero h)
 map-at f (s ∷ ss) zero h = refl
 map-at f (s ∷ ss) (suc i) h = map-at f ss i (le-of-suc-le-suc h)
 
-pub map-long : (f : Step → Step) (ss : List Step) → length (map f ss) ≡ length ss
-map-long f [] = refl
-map-long f (s ∷ ss) = ap suc (map-long f ss)
-
 -- ---- into counting form
 abbrev pub Tags : ℕ → ℕ → List ℕ → ℕ → List ℕ → Type 0
 Tags c n steps₀ i steps = Partly n (stepsIn steps₀) (map (tagBy c) (stepsIn steps₀)) i steps
@@ -40,7 +36,7 @@ module _ (c n : ℕ) (steps₀ : List ℕ) (l : length steps₀ ≡ n * 4) where
   many = length-steps n steps₀ l
 
   new-many : length (map (tagBy c) old) ≡ n
-  new-many = map-long (tagBy c) old ∙ many
+  new-many = length-map old (tagBy c) ∙ many
 
   pub tags-none : Tags c n steps₀ 0 steps₀
   tags-none = partly-none n old (map (tagBy c) old) many new-many steps₀ l refl

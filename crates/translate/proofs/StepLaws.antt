@@ -130,13 +130,13 @@ tagged-by d w s k h e =
     let t : tagOf (d .boards) (least n P) ≡ s .source = eqb-true _ _ (and-both _ _ (least-found n P (N .source)) .0) in
     record { board = A .board; type = N .type; tag = omega (arith, t, tag-below (d .boards) (least n P)) }
 
--- ---- `send_at`, for the step x whose bytes it has in hand
+-- ---- `sender_at`, for the step x whose bytes it has in hand
 module _ {p r m tag : ℕ} (s : Sizes) (tab w : List ℕ) (x : Step) (e : s .form ≡ 0) (ep : p ≡ x .board) (er : r ≡ x .rule) (em : m ≡ x .type) (et : tag ≡ x .source) where
   abbrev d : Design
   d = designOf s tab
 
-  pub sends-what : Bounded s → stepFault 0 d w (lowest d w x) ≡ 0 → silentBytes m tag ≡ false → (At s p m) × (tag < 2)
-  sends-what B h z =
+  pub sender-what : Bounded s → stepFault 0 d w (lowest d w x) ≡ 0 → silentBytes m tag ≡ false → (At s p m) × (tag < 2)
+  sender-what B h z =
       let T = tagged-by d w x (B .boards) h (ap₂ silentBytes (sym em) (sym et) ∙ z) in
       (record { board = rw ep (T .board); type = rw em (T .type) }, rw et (T .tag))
 
@@ -145,17 +145,17 @@ module _ {p r m tag : ℕ} (s : Sizes) (tab w : List ℕ) (x : Step) (e : s .for
   low-in = sym (low-zero s w p m tag e)
 
   module _ {q : ℕ} (h : q ≡ (tag if silentBytes m tag else lowestIn s w p m tag)) where
-    sends-step : stepOf p r m q ≡ lowest d w x
-    sends-step =
+    sender-step : stepOf p r m q ≡ lowest d w x
+    sender-step =
         let a : stepOf p r m tag ≡ x = λ i. record { board = ep i; rule = er i; type = em i; source = et i } in
         ap (withSource (stepOf p r m tag)) (h ∙ ap (λ (y : ℕ). tag if silentBytes m tag else y) (sym low-in) ∙ sym (low-source d w (stepOf p r m tag)))
         ∙ low-keeps d w (stepOf p r m tag) ∙ ap (lowest d w) a
 
-    pub sends-accepted : stepFault 0 d w (lowest d w x) ≡ 0 → stepFault (s .form) d w (stepOf p r m q) ≡ 0
-    sends-accepted z = ap₂ (λ (k : ℕ) (y : Step). stepFault k d w y) e sends-step ∙ z
+    pub sender-accepted : stepFault 0 d w (lowest d w x) ≡ 0 → stepFault (s .form) d w (stepOf p r m q) ≡ 0
+    sender-accepted z = ap₂ (λ (k : ℕ) (y : Step). stepFault k d w y) e sender-step ∙ z
 
-    pub sends-stepped : {v : List ℕ} → v ≡ stepped (s .form) d w (stepOf p r m q) → v ≡ stepped 0 d w (lowest d w x)
-    sends-stepped f = f ∙ ap₂ (λ (k : ℕ) (y : Step). stepped k d w y) e sends-step
+    pub sender-stepped : {v : List ℕ} → v ≡ stepped (s .form) d w (stepOf p r m q) → v ≡ stepped 0 d w (lowest d w x)
+    sender-stepped f = f ∙ ap₂ (λ (k : ℕ) (y : Step). stepped k d w y) e sender-step
 
-    pub sends-source : q ≡ lowest d w x .source
-    sends-source = ap (λ (y : Step). y .source) sends-step
+    pub sender-source : q ≡ lowest d w x .source
+    sender-source = ap (λ (y : Step). y .source) sender-step

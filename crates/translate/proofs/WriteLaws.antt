@@ -3,7 +3,7 @@ use mathlib.Core.Path.{_≡_, refl, sym, ap, ap₂, _∙_}
 use mathlib.Core.List.{List, _++_, map}
 use Prim.Native.Nat.{ℕ, zero, suc, _+_, _-_, _*_, _/_, _≤_, _<_}
 use native.Mathlib.Omega.{arith}
-use lib.ListN.{length, set, take, drop, length-append, length-drop, length-set}
+use lib.ListN.{length, set, take, drop, length-append, length-drop, length-set, length-map}
 use lib.Seq.{length-take-le}
 use borrow.Rule.Slice.PartMut.{putMid, post-is}
 use Rattle.fault.specs.Bytes.{trailerOf}
@@ -22,12 +22,12 @@ use Rattle.engine.proofs.FormCases.{sets, counts}
 use Rattle.translate.specs.Written.{bytesOf, rewritten, moved, translationWith}
 use Rattle.translate.specs.Facts.{inMessageForm}
 use Rattle.translate.proofs.RecordLaws.{length-bytes}
-use Rattle.translate.proofs.LoopLaws.{map-long, low-long}
+use Rattle.translate.proofs.LoopLaws.{low-long}
 
 -- ---- the schedule in the other form
 pub moved-long : (k : ℕ) (d : Design) (w : List ℕ) (ss : List Step) → length (moved k d w ss) ≡ length ss
 unfolding moved
-moved-long zero d w ss = map-long (tagged d) ss
+moved-long zero d w ss = length-map ss (tagged d)
 moved-long (suc k) d w ss = low-long d w ss
 
 pub moved-tags : {u : List ℕ} (k : ℕ) (d : Design) (w : List ℕ) (ss : List Step) → k ≡ 0 → u ≡ bytesOf (map (tagBy (d .boards)) ss) → u ≡ bytesOf (moved k d w ss)

@@ -196,13 +196,13 @@ fn write_along(table: &[u8], s: Sizes, w: &mut [u64], steps: &mut [u8])
     let total = steps.len() / 4;
     let mut i = 0;
     while i < total {
-        send_at(table, s, w, steps, i);
+        sender_at(table, s, w, steps, i);
         i += 1;
     }
 }
 
 // The tag of record i becomes its sender, and the step is taken.
-fn send_at(table: &[u8], s: Sizes, w: &mut [u64], steps: &mut [u8], i: usize)
+fn sender_at(table: &[u8], s: Sizes, w: &mut [u64], steps: &mut [u8], i: usize)
     requires { ⌜ (Suits s (now table)) × (s .form ≡ 0) × (Holds s 900000 (now w)) × (i < 4096) × (i * 4 + 3 < length (now steps)) × (stepFault 0 (designOf s (now table)) (now w) (lowest (designOf s (now table)) (now w) (recordAt (now steps) i)) ≡ 0) ⌝ }
     ensures { λ r. ⌜ now (w .exit) ≡ stepped 0 (designOf s (now (table .entry))) (now (w .entry)) (lowest (designOf s (now (table .entry))) (now (w .entry)) (recordAt (now (steps .entry)) i)) ⌝ }
     ensures { λ r. ⌜ now (steps .exit) ≡ set (now (steps .entry)) (i * 4 + 3) (lowest (designOf s (now (table .entry))) (now (w .entry)) (recordAt (now (steps .entry)) i) .source) ⌝ }
@@ -225,8 +225,8 @@ fn sender(s: Sizes, w: &[u64], p: usize, m: usize, tag: usize) -> usize
     if engine::step::silent(m, tag) {
         return tag;
     }
-    let i = engine::words::cell(s, p, m);
-    let j = engine::words::sent(s, m);
+    let i = engine::words::cell_at(s, p, m);
+    let j = engine::words::sent_at(s, m);
     lowest_of(s.correct, s.faulty, tag, w[i], w[j])
 }
 

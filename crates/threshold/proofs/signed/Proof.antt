@@ -1,9 +1,9 @@
 use mathlib.Core.Path.{refl}
-use Prim.Native.Nat.{_-_}
 use native.Mathlib.Omega.{arith}
+use Prim.Native.Nat.{_+_, _%_}
 use borrow.Author.Needs.{needs}
-use lib.IntN.{negsuc}
-use Rattle.threshold.proofs.SizeLaws.{back, small, down, byte-low, byte-high}
+use Rattle.threshold.specs.Threshold.{signedByte}
+use Rattle.threshold.proofs.SizeLaws.{back, small, turned, byte-small}
 use Rattle.threshold.proofs.signed.Statement.{statement}
 use Rattle.threshold.proofs.signed.Tie as tie
 
@@ -13,6 +13,9 @@ signed-spec =
     (tie.spec
     (λ c. search needs)
     (λ c. search needs)
-    (λ c. rw (small (c .before .args .x) (omega arith), down (c .before .args .x) (omega arith)) (record { sfits = omega arith }))
-    (λ c. rw (small (c .before .args .x) (omega arith), ← byte-low (c .before .args .x) (omega arith)) (refl, omega arith))
-    (λ c. rw (small (c .before .args .x) (omega arith), down (c .before .args .x) (omega arith), back (negsuc (255 - c .before .args .x)) (omega arith), ← byte-high (c .before .args .x) (omega arith)) (refl, omega arith)))
+    (λ c. let x = c .args .x in
+    let h = c .fits .x .fits in
+    rw (small ((x + 128) % 256) (omega arith), turned x h) (record { sfits = omega (arith, byte-small x h) }))
+    (λ c. let x = c .args .x in
+    let h = c .fits .x .fits in
+    rw (small ((x + 128) % 256) (omega arith), turned x h, back (signedByte x) (omega (arith, byte-small x h))) (refl, byte-small x h)))

@@ -34,7 +34,7 @@ write-along-spec =
     (λ c. let st = c .before .before .before .before .before .before .before .before .before .before .before .before in
     let a = st .args in
     let t = c .before .before .before .before .before .before .before .loop-test .taken in
-    (omega (arith, t), along-more (designOf (a .s) (a .table .now)) (a .w .now) (length (a .steps .now) / 4) (a .steps .now) (st .pre .4) (st .pre .5) (c .before .before .before .before .before .before .before .before .loop .inv .1) t (c .before .before .before .before .send-at .ensures .0) (c .before .before .before .before .send-at .ensures .1)))
+    (omega (arith, t), along-more (designOf (a .s) (a .table .now)) (a .w .now) (length (a .steps .now) / 4) (a .steps .now) (st .pre .4) (st .pre .5) (c .before .before .before .before .before .before .before .before .loop .inv .1) t (c .before .before .before .before .sender-at .ensures .0) (c .before .before .before .before .sender-at .ensures .1)))
     (λ c. c .before .loop .inv .1 .long)
     (λ c. c .before .loop .inv .1 .partly .long ∙ sym (c .before .before .before .before .before .pre .4))
     (λ c. let st = c .before .before .before .before .before in

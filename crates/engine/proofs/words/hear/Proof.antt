@@ -17,22 +17,22 @@ hear-spec =
     (λ c κs. search needs)
     (λ c. let st = c .before .before .before in
     let a = st .args in
-    omega (arith, c .before .cell .ensures .2, c .slot .ensures .1, source-few (a .s .form) (a .s .correct) (a .s .faulty) (a .q) (st .pre .0 .boards) (st .pre .2 .below)))
+    omega (arith, c .before .cell-at .ensures .2, c .slot .ensures .1, source-few (a .s .form) (a .s .correct) (a .s .faulty) (a .q) (st .pre .0 .boards) (st .pre .2 .below)))
     (λ c. let st = c .before .before .before in
     let a = st .args in
-    omega (arith, c .before .cell .ensures .2, c .slot .ensures .1, source-few (a .s .form) (a .s .correct) (a .s .faulty) (a .q) (st .pre .0 .boards) (st .pre .2 .below)))
+    omega (arith, c .before .cell-at .ensures .2, c .slot .ensures .1, source-few (a .s .form) (a .s .correct) (a .s .faulty) (a .q) (st .pre .0 .boards) (st .pre .2 .below)))
     (λ c. let st = c .before .before .before .before in
     let a = st .args in
-    omega (arith, st .pre .3 .fits, c .before .slot .ensures .0, slot-below (a .s .form) (a .s .correct) (a .s .faulty) (a .q) (st .pre .2 .below), c .before .before .cell .ensures .1))
+    omega (arith, st .pre .3 .fits, c .before .slot .ensures .0, slot-below (a .s .form) (a .s .correct) (a .s .faulty) (a .q) (st .pre .2 .below), c .before .before .cell-at .ensures .1))
     (λ c κs. let st = c .before .before .before .before in
     let a = st .args in
     (source-few (a .s .form) (a .s .correct) (a .s .faulty) (a .q) (st .pre .0 .boards) (st .pre .2 .below), λ ne. st .pre .3 .small ne _))
     (λ c. let st = c .before .before .before .before .before in
     let a = st .args in
-    omega (arith, c .before .before .before .cell .ensures .2, c .before .before .slot .ensures .1, source-few (a .s .form) (a .s .correct) (a .s .faulty) (a .q) (st .pre .0 .boards) (st .pre .2 .below)))
+    omega (arith, c .before .before .before .cell-at .ensures .2, c .before .before .slot .ensures .1, source-few (a .s .form) (a .s .correct) (a .s .faulty) (a .q) (st .pre .0 .boards) (st .pre .2 .below)))
     (λ c. let st = c .before .before .before .before .before in
     let a = st .args in
-    omega (arith, st .pre .3 .fits, c .before .before .slot .ensures .0, slot-below (a .s .form) (a .s .correct) (a .s .faulty) (a .q) (st .pre .2 .below), c .before .before .before .cell .ensures .1))
+    omega (arith, st .pre .3 .fits, c .before .before .slot .ensures .0, slot-below (a .s .form) (a .s .correct) (a .s .faulty) (a .q) (st .pre .2 .below), c .before .before .before .cell-at .ensures .1))
     (λ c. search needs)
     (λ c. let a = c .before .before .before .before .before .args in
-    rw (c .bump .ensures, c .before .before .slot .ensures .0, c .before .before .before .cell .ensures .0, cell-next (a .s .correct) (a .s .types) (wide (a .s .form)) (a .p) (a .m) (slot (a .s .form) (a .q)))))
+    rw (c .bump .ensures, c .before .before .slot .ensures .0, c .before .before .before .cell-at .ensures .0, cell-next (a .s .correct) (a .s .types) (wide (a .s .form)) (a .p) (a .m) (slot (a .s .form) (a .q)))))

@@ -12,4 +12,4 @@ room-spec =
     (λ c. search needs)
     (λ c. let st = c .before .before in
     let a = st .args in
-    (rw (c .before .sent .ensures .0) (room-is (a .s)), omega (arith, st .pre .types))))
+    (rw (c .before .sent-at .ensures .0) (room-is (a .s)), omega (arith, st .pre .types))))

@@ -2,12 +2,12 @@ use native.Mathlib.Omega.{arith}
 use borrow.Author.Needs.{needs}
 use Rattle.engine.proofs.PlaceLaws.{cells-few, words-few}
 use Rattle.paper.specs.Words.{sentAt}
-use Rattle.engine.proofs.words.sent.Statement.{statement}
-use Rattle.engine.proofs.words.sent.Tie as tie
+use Rattle.engine.proofs.words.sent_at.Statement.{statement}
+use Rattle.engine.proofs.words.sent_at.Tie as tie
 
-pub sent-spec : {M : Type 1} → statement M
+pub sent-at-spec : {M : Type 1} → statement M
 unfolding sentAt
-sent-spec =
+sent-at-spec =
     tie.close
     (tie.spec
     (λ c. let st = c .before in

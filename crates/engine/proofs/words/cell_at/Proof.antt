@@ -1,11 +1,11 @@
 use native.Mathlib.Omega.{arith}
 use borrow.Author.Needs.{needs}
 use Rattle.engine.proofs.PlaceLaws.{row-few, row-words-few, cell-is, cell-inside}
-use Rattle.engine.proofs.words.cell.Statement.{statement}
-use Rattle.engine.proofs.words.cell.Tie as tie
+use Rattle.engine.proofs.words.cell_at.Statement.{statement}
+use Rattle.engine.proofs.words.cell_at.Tie as tie
 
-pub cell-spec : {M : Type 1} → statement M
-cell-spec =
+pub cell-at-spec : {M : Type 1} → statement M
+cell-at-spec =
     tie.close
     (tie.spec
     (λ c. let st = c .before in

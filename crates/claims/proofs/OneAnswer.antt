@@ -1,0 +1,16 @@
+-- Each contract gives the answer and the lent memory as definitions of the input.
+use mathlib.Core.Path.{_≡_, sym, _∙_}
+use Rattle.claims.specs.OneAnswer.{OneAnswer}
+
+both : {A : Type 0} {x y z : A} → x ≡ z → y ≡ z → x ≡ y
+both e f = e ∙ sym f
+
+pub one-answer : OneAnswer
+one-answer = record {
+  run = λ κs a r r′ s s′ p q. (both (p .0) (q .0), both (p .1) (q .1));
+  translate = λ κs a r r′ s s′ p q. (both (p .0) (q .0), both (p .1) (q .1));
+  first-step = λ κs a r r′ s s′ p q. both p q;
+  c-run = λ κs a r r′ s s′ p q. (both (p .0) (q .0), both (p .1) (q .1));
+  c-translate = λ κs a r r′ s s′ p q. (both (p .0) (q .0), both (p .1) (q .1));
+  c-first-step = λ κs a r r′ s s′ p q. both p q;
+}

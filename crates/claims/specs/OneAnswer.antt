@@ -1,0 +1,39 @@
+-- One answer only: two results of a call, with the memory that was lent to it, that meet its contract for the same input are equal. The
+-- contracts are the functions' own, `Post`. Proofs: proofs/OneAnswer.antt.
+use mathlib.Core.Path.{_≡_}
+use mathlib.Core.List.{List}
+use Prim.Native.Nat.{ℕ}
+use contract.Lifetimes.{Lfts}
+use denote.Ref.{RefT, now}
+use Rattle.engine.proofs.run.Reads as run
+use Rattle.translate.proofs.translate.Reads as translate
+use Rattle.first_step.proofs.first_step.Reads as first-step
+use Rattle.capi.proofs.macaroosh_run.Reads as c-run
+use Rattle.capi.proofs.macaroosh_translate.Reads as c-translate
+use Rattle.capi.proofs.macaroosh_first_step.Reads as c-first-step
+
+-- a bundle and a standing table, as a call leaves them
+abbrev pub Two : Type 0
+Two = RefT (List ℕ) × (RefT (List ℕ) × Unit {0})
+
+-- and lent words or bytes
+abbrev pub Three : Type 0
+Three = RefT (List ℕ) × (RefT (List ℕ) × (RefT (List ℕ) × Unit {0}))
+
+abbrev pub left : Three → List ℕ
+left s = now (s .1 .1 .0)
+
+-- a contract of input a, answer r and what is left, s
+abbrev pub One : {A R : Type 0} → (A → R → Two → Type 0) → Type 0
+One {A} {R} Post = (a : A) (r r′ : R) (s s′ : Two) → Post a r s → Post a r′ s′ → r ≡ r′
+
+abbrev pub OneLent : {A R : Type 0} → (A → R → Three → Type 0) → Type 0
+OneLent {A} {R} Post = (a : A) (r r′ : R) (s s′ : Three) → Post a r s → Post a r′ s′ → (r ≡ r′) × (left s ≡ left s′)
+
+pub record OneAnswer : Type 0 where
+  pub run : (κs : Lfts 2) → OneLent (run.Post κs)
+  pub translate : (κs : Lfts 2) → OneLent (translate.Post κs)
+  pub first-step : (κs : Lfts 1) → One (first-step.Post κs)
+  pub c-run : (κs : Lfts 2) → OneLent (c-run.Post κs)
+  pub c-translate : (κs : Lfts 2) → OneLent (c-translate.Post κs)
+  pub c-first-step : (κs : Lfts 1) → One (c-first-step.Post κs)
