@@ -62,7 +62,8 @@ impl Dice {
     }
 }
 
-fn little_endian(number: usize) -> [u8; 2] {
+/// A distance of a trailer.
+pub fn little_endian(number: usize) -> [u8; 2] {
     [(number % 256) as u8, (number / 256 % 256) as u8]
 }
 
@@ -133,8 +134,8 @@ fn bundle_for(dice: &mut Dice, table: &[u8], own: bool) -> Vec<u8> {
     closed(&bytes, &steps, n - f, [n as u8, t as u8, f as u8, form])
 }
 
-// The bytes before the steps, the steps and the trailer.
-fn closed(before: &[u8], steps: &[Step], correct: usize, numbers: [u8; 4]) -> Vec<u8> {
+/// A bundle of the bytes before its steps, the steps, and the numbers n, t, f and form.
+pub fn closed(before: &[u8], steps: &[Step], correct: usize, numbers: [u8; 4]) -> Vec<u8> {
     let mut bytes = before.to_vec();
     for s in steps {
         bytes.extend(s.record());

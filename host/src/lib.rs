@@ -1,4 +1,5 @@
-//! The agreement bench for Rust: the proved library's calls, and beside them an independent model that judges them.
+//! The agreement bench for Rust: the proved library's calls, beside them an independent model that judges them, and a
+//! hand-written fast version that their speed is measured against.
 //!
 //! ```
 //! use macaroosh::{first_step, run, MOST_WORDS, ECHO};
@@ -19,7 +20,9 @@
 
 pub mod answer;
 pub mod bundles;
+pub mod cases;
 pub mod compare;
+pub mod fast;
 mod ffi;
 pub mod model;
 pub mod parts;

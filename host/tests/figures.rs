@@ -1,9 +1,10 @@
-//! The outline's figures: one table of cases, run over the model and the library.
+//! The outline's figures: one table of cases, run over the model, the library and the fast version.
 
+use macaroosh::fast::Fast;
 use macaroosh::model::{read, report, Model, Outline};
 use macaroosh::{Answer, Bench, First, Library, Refusal, Step, ECHO, MOST_BYTES, MOST_WORDS};
 
-const BENCHES: [(&str, &dyn Bench); 2] = [("model", &Model), ("library", &Library)];
+const BENCHES: [(&str, &dyn Bench); 3] = [("model", &Model), ("library", &Library), ("fast", &Fast)];
 
 const W: &str = "010101 0003FFFF 0103FFFF 02030000 02040003 02050001 1400170004010100";
 const COUNTING: &str = "010101 0003FFFF 0103FFFF 02030000 02040001 02050000 1400170004010101";

@@ -1,0 +1,158 @@
+//! The proved library beside the hand-written fast version, measured in turns in one run; docs/COST.md has the results.
+//!
+//! - `ratios` prints a line for each case, question and form: both times of one call, and their ratio.
+//! - `ratios write FOLDER` writes each case's bundle there and prints a line for each measurement: file and question.
+//! - `ratios one library|rust run|translate|first FILE COUNT` only asks the question so often, to be counted from outside.
+
+use macaroosh::cases::{cases, Case};
+use macaroosh::fast::Fast;
+use macaroosh::model::Model;
+use macaroosh::{Answer, Bench, First, Library, ECHO, MOST_WORDS};
+use std::process::ExitCode;
+use std::time::{Duration, Instant};
+
+const QUESTIONS: [&str; 3] = ["run", "translate", "first"];
+
+fn main() -> ExitCode {
+    let words: Vec<String> = std::env::args().skip(1).collect();
+    let words: Vec<&str> = words.iter().map(String::as_str).collect();
+    let done = match words[..] {
+        [] => ratios(),
+        ["write", folder] => write(folder),
+        ["one", side, question, file, count] => one(side, question, file, count),
+        _ => Err("as 'ratios', 'ratios write FOLDER' or 'ratios one SIDE QUESTION FILE COUNT'".to_string()),
+    };
+    match done {
+        Ok(()) => ExitCode::SUCCESS,
+        Err(cause) => {
+            eprintln!("ratios: {cause}");
+            ExitCode::FAILURE
+        }
+    }
+}
+
+// What is asked of a case.
+fn questions(case: &Case) -> &'static [&'static str] {
+    if case.stuck {
+        &QUESTIONS[2..]
+    } else {
+        &QUESTIONS
+    }
+}
+
+fn form(case: &Case) -> &'static str {
+    if case.counting {
+        "counting"
+    } else {
+        "message"
+    }
+}
+
+fn ratios() -> Result<(), String> {
+    if std::env::var_os("MACAROOSH_RUNNER").is_some() {
+        eprintln!("times under an emulator say nothing: tests/instructions counts instead");
+    }
+    println!("{:<12} {:<9} {:<9} {:>12} {:>12} {:>7}", "case", "form", "question", "library ns", "rust ns", "ratio");
+    for case in cases() {
+        agree(&case)?;
+        for question in questions(&case) {
+            let [library, rust] = times(&case.bundle, question);
+            let ratio = library / rust;
+            println!("{:<12} {:<9} {question:<9} {library:>12.1} {rust:>12.1} {ratio:>7.2}", case.name, form(&case));
+        }
+    }
+    Ok(())
+}
+
+fn write(folder: &str) -> Result<(), String> {
+    for case in cases() {
+        agree(&case)?;
+        let name = format!("{}-{}", case.name, form(&case));
+        std::fs::write(format!("{folder}/{name}"), &case.bundle)
+            .map_err(|cause| format!("{folder}/{name}: {cause}"))?;
+        questions(&case).iter().for_each(|question| println!("{name} {question}"));
+    }
+    Ok(())
+}
+
+fn one(side: &str, question: &str, file: &str, count: &str) -> Result<(), String> {
+    let bench: &dyn Bench = match side {
+        "library" => &Library,
+        "rust" => &Fast,
+        _ => return Err(format!("there is no side '{side}'")),
+    };
+    let bundle = std::fs::read(file).map_err(|cause| format!("{file}: {cause}"))?;
+    let count = count.parse().map_err(|_| format!("'{count}' is no count"))?;
+    Asked::new(bundle.len()).ask(bench, &bundle, question, count);
+    Ok(())
+}
+
+// Refuses a case on which the model, the library and the fast version differ.
+fn agree(case: &Case) -> Result<(), String> {
+    let answers = |bench: &dyn Bench| {
+        let mut asked = Asked::new(case.bundle.len());
+        QUESTIONS.iter().for_each(|question| asked.ask(bench, &case.bundle, question, 1));
+        asked
+    };
+    let told = answers(&Model);
+    if told.run.map(|answer| answer.refusal) != Some(0) || case.stuck != (told.first == Some(Ok(None))) {
+        return Err(format!("{} in {} form is not as it should be", case.name, form(case)));
+    }
+    if told != answers(&Library) || told != answers(&Fast) {
+        return Err(format!("the benches differ on {} in {} form", case.name, form(case)));
+    }
+    Ok(())
+}
+
+// Lent memory, and the last answer to each question.
+#[derive(PartialEq)]
+struct Asked {
+    words: Vec<u64>,
+    out: Vec<u8>,
+    run: Option<Answer>,
+    translate: Option<Answer>,
+    first: Option<First>,
+}
+
+impl Asked {
+    fn new(bytes: usize) -> Asked {
+        Asked { words: vec![0; MOST_WORDS], out: vec![0; bytes], run: None, translate: None, first: None }
+    }
+
+    // The answers are kept, so that no call is left out.
+    fn ask(&mut self, bench: &dyn Bench, bundle: &[u8], question: &str, count: u32) {
+        for _ in 0..count {
+            match question {
+                "run" => self.run = Some(bench.run(bundle, &ECHO, &mut self.words)),
+                "translate" => self.translate = Some(bench.translate(bundle, &ECHO, &mut self.out)),
+                _ => self.first = Some(bench.first_step(bundle, &ECHO)),
+            }
+        }
+    }
+}
+
+// The least time of one call of the library and of the fast version, in nanoseconds: rounds of calls in turns, each as
+// many as fill some milliseconds.
+fn times(bundle: &[u8], question: &str) -> [f64; 2] {
+    const SIDES: [&dyn Bench; 2] = [&Library, &Fast];
+    let mut asked = Asked::new(bundle.len());
+    let mut timed = |bench, count| {
+        let start = Instant::now();
+        asked.ask(bench, bundle, question, count);
+        start.elapsed()
+    };
+    let counts = SIDES.map(|bench| {
+        let mut count = 1;
+        while timed(bench, count) < Duration::from_millis(4) {
+            count *= 2;
+        }
+        count
+    });
+    let mut least = [f64::INFINITY; 2];
+    for _ in 0..20 {
+        for ((bench, count), least) in SIDES.into_iter().zip(counts).zip(&mut least) {
+            *least = least.min(timed(bench, count).as_nanos() as f64 / f64::from(count));
+        }
+    }
+    least
+}

@@ -1,0 +1,127 @@
+//! The bundles that speed is measured on, all read beside the echo table. The model has accepted each of their steps.
+
+use crate::answer::{Bench, Step};
+use crate::bundles::{closed, little_endian, Dice};
+use crate::model::{read, Bundle, Configuration, Model, Outline};
+use crate::ECHO;
+
+/// A bundle to measure with.
+pub struct Case {
+    /// What it shows, in a word or two.
+    pub name: &'static str,
+    /// Whether it is in counting form.
+    pub counting: bool,
+    /// Its bytes.
+    pub bundle: Vec<u8>,
+    /// Whether no step is possible after it, so that only the first-step question tells something.
+    pub stuck: bool,
+}
+
+/// All cases, each in both forms.
+pub fn cases() -> Vec<Case> {
+    let of = |name, stuck, message: Vec<u8>| {
+        let mut counting = vec![0; message.len()];
+        Model.translate(&message, &ECHO, &mut counting);
+        [(false, message), (true, counting)].map(|(counting, bundle)| Case { name, counting, bundle, stuck })
+    };
+    let all = [
+        of("echo-w", false, w()),
+        of("echo-4096", false, echo()),
+        of("wide-4096", false, wide()),
+        of("none-leaves", true, none_leaves()),
+        of("none-met", true, none_met()),
+    ];
+    all.into_iter().flatten().collect()
+}
+
+// Schedule W of the outline.
+fn w() -> Vec<u8> {
+    let steps = [[0, 3, 255, 255], [1, 3, 255, 255], [2, 3, 0, 0], [2, 4, 0, 3], [2, 5, 0, 1]].map(Step::of);
+    closed(&[1, 1, 1], &steps, 3, [4, 1, 1, 0])
+}
+
+// The echo table, 64 correct boards, 4,096 steps: each board hears every echo.
+fn echo() -> Vec<u8> {
+    walked(&[], &[1; 64], [64, 21, 0, 0])
+}
+
+// The largest sizes: 16 states, 64 rules, T = 4, n = 64, f = 21, 4,096 steps.
+fn wide() -> Vec<u8> {
+    // Three states for each number of types sent, and a fourth for all of them.
+    let level = |state: usize| (state / 3).min(4);
+    let states = (0..16).map(|s| [u8::from(level(s) == 0) + 2 * u8::from(level(s) == 4), (1 << level(s)) - 1]);
+    let rules = (0..64).map(|r| {
+        let (from, way) = (r / 4, r % 4);
+        let to = if way < 2 { 3 * level(from) + (from + way) % 3 } else { (from + 3).min(12 + way) };
+        // Ways 2 and 3 lead on: with 3 messages of the last type sent, or with t + 1.
+        let asks = |m: usize| match way {
+            2 if m + 1 == level(from) => [0, 0, 3],
+            3 if m + 1 == level(from) => [0, 1, 1],
+            _ => [[0, 0, 0], [255, 2, 9], [0, 255, 5], [255, 0, 1]][(r + m) % 4],
+        };
+        rule(from, to, [asks(0), asks(1), asks(2), asks(3)])
+    });
+    let starts: Vec<u8> = (0..43).map(|p| p % 3).collect();
+    walked(&table(states.collect(), rules.collect()), &starts, [64, 21, 21, 0])
+}
+
+// All 64 boards are in a state that none of the 64 rules leaves.
+fn none_leaves() -> Vec<u8> {
+    let states = (0..16).map(|s| [u8::from(s == 0), 0]);
+    let rules = (0..64).map(|_| rule(1, 1, [[0; 3]; 4]));
+    [table(states.collect(), rules.collect()), closed(&[0; 64], &[], 64, [64, 0, 0, 0])].concat()
+}
+
+// All 64 boards have sent every type and received nothing; 60 of the 64 rules leave their state, and ask too much of the
+// last type.
+fn none_met() -> Vec<u8> {
+    let states = (0..16).map(|s: usize| [u8::from(s == 0), (1 << s.min(4)) - 1]);
+    let sends = (0..4).map(|s| rule(s, s + 1, [[0; 3]; 4]));
+    let rules = sends.chain((0..60).map(|_| rule(4, 4, [[0; 3], [0; 3], [0; 3], [0, 0, 127]])));
+    let table = table(states.collect(), rules.collect());
+    let steps = (0..4).flat_map(|rule| (0..64).map(move |board| Step { board, rule, kind: 255, source: 255 }));
+    [table, closed(&[0; 64], &steps.collect::<Vec<Step>>(), 64, [64, 0, 0, 0])].concat()
+}
+
+fn rule(from: usize, to: usize, asks: [[u8; 3]; 4]) -> Vec<u8> {
+    [&[from as u8, to as u8], &asks.concat()[..]].concat()
+}
+
+// A table part of T = 4 and k = 3.
+fn table(states: Vec<[u8; 2]>, rules: Vec<Vec<u8>>) -> Vec<u8> {
+    let (of_states, of_rules) = (states.concat(), rules.concat());
+    let distances = [little_endian(of_states.len() + of_rules.len()), little_endian(of_rules.len())];
+    [&of_states, &of_rules, &distances.concat()[..], &[states.len() as u8, rules.len() as u8, 4, 3]].concat()
+}
+
+// The front and the starts with 4,096 steps that the model accepts, each with a receipt where one is possible.
+fn walked(front: &[u8], starts: &[u8], numbers: [u8; 4]) -> Vec<u8> {
+    let before = [front, starts].concat();
+    let empty = read(&closed(&before, &[], starts.len(), numbers), &ECHO).expect("a bundle");
+    let dice = &mut Dice::new(1);
+    let mut left = empty.start();
+    let mut steps = Vec::new();
+    while steps.len() < 4_096 {
+        let step = next(dice, &empty, &left);
+        empty.apply(&mut left, step);
+        steps.push(step);
+    }
+    closed(&before, &steps, starts.len(), numbers)
+}
+
+// A step that is accepted, of the boards, rules and messages in turn from where the dice say: a receipt if any is.
+fn next(dice: &mut Dice, bundle: &Bundle, left: &Configuration) -> Step {
+    let mut turns = |count: usize| {
+        let first = dice.below(count);
+        (0..count).map(move |i| ((first + i) % count) as u8)
+    };
+    let (boards, rules) = (turns(bundle.correct()), turns(bundle.table.rules.len()));
+    let (types, senders) = (&turns(bundle.table.types), &turns(bundle.n));
+    let silent = boards
+        .flat_map(|board| rules.clone().map(move |rule| Step { board, rule, kind: 255, source: 255 }))
+        .filter(|step| bundle.table.rules[usize::from(step.rule)].from == left.states[usize::from(step.board)]);
+    let receipts = silent.clone().flat_map(|step| {
+        types.clone().flat_map(move |kind| senders.clone().map(move |source| Step { kind, source, ..step }))
+    });
+    receipts.chain(silent).find(|&step| Model.check(bundle, left, step).is_ok()).expect("a step is possible")
+}

@@ -1,0 +1,368 @@
+//! The same three questions by hand, for speed: rules decoded once with their thresholds, sets in words, nothing allocated.
+
+use crate::answer::{Answer, Bench, First, Refusal, Step};
+use crate::MOST_WORDS;
+
+/// The hand-written fast version as one of the benches that are compared.
+pub struct Fast;
+
+impl Bench for Fast {
+    fn run(&self, bundle: &[u8], standing: &[u8], words: &mut [u64]) -> Answer {
+        let mut rules = [Rule::default(); 64];
+        let schedule = match Schedule::read(bundle, standing, &mut rules) {
+            Ok(schedule) => schedule,
+            Err(refusal) => return nothing_done(refusal),
+        };
+        let words = match words.get_mut(..schedule.room()) {
+            Some(words) => words,
+            None => return nothing_done(refused(30, 0)),
+        };
+        match schedule.run(words) {
+            Ok(()) => Answer { refusal: 0, place: 0, count: (schedule.steps.len() / 4) as u32 },
+            Err(Refusal { number, place }) => Answer { refusal: number, place, count: place },
+        }
+    }
+
+    fn translate(&self, bundle: &[u8], standing: &[u8], out: &mut [u8]) -> Answer {
+        let mut rules = [Rule::default(); 64];
+        let schedule = match Schedule::read(bundle, standing, &mut rules) {
+            Ok(schedule) => schedule,
+            Err(refusal) => return nothing_done(refusal),
+        };
+        let out = match out.get_mut(..bundle.len()) {
+            Some(out) => out,
+            None => return nothing_done(refused(30, 0)),
+        };
+        if let Err(refusal) = schedule.run(&mut [0; MOST_WORDS][..schedule.room()]) {
+            return nothing_done(refusal);
+        }
+        out.copy_from_slice(bundle);
+        let (before, trailer) = out.split_at_mut(bundle.len() - 8);
+        let (_, steps) = before.split_at_mut(before.len() - schedule.steps.len());
+        if schedule.counting {
+            schedule.write_senders(steps);
+        } else {
+            schedule.write_tags(steps);
+        }
+        trailer[7] = u8::from(!schedule.counting);
+        Answer { refusal: 0, place: 0, count: bundle.len() as u32 }
+    }
+
+    fn first_step(&self, bundle: &[u8], standing: &[u8]) -> First {
+        let mut rules = [Rule::default(); 64];
+        let schedule = Schedule::read(bundle, standing, &mut rules)?;
+        let words = &mut [0; MOST_WORDS][..schedule.room()];
+        schedule.run(words)?;
+        Ok(if schedule.counting { schedule.first::<true>(words) } else { schedule.first::<false>(words) })
+    }
+}
+
+fn refused(number: u8, place: usize) -> Refusal {
+    Refusal { number, place: place as u32 }
+}
+
+// A refusal that leaves lent memory unchanged and counts 0.
+fn nothing_done(refusal: Refusal) -> Answer {
+    Answer { refusal: refusal.number, place: refusal.place, count: 0 }
+}
+
+#[derive(Clone, Copy, Default)]
+struct Rule {
+    from: u8,
+    to: u8,
+    // The type that it sends; 8 for none.
+    sends: u8,
+    // The thresholds by type for the bundle's n and t.
+    least: [i16; 4],
+}
+
+// What reading leaves of a table, its rules apart.
+struct Table {
+    rules: usize,
+    types: usize,
+    factor: u32,
+    // Bit s for each initial state s.
+    initial: u16,
+}
+
+// A part's bytes before its trailer, the trailer's two distances, and its other four bytes.
+fn parted(part: &[u8]) -> Option<(&[u8], usize, usize, [u8; 4])> {
+    match *part {
+        [ref before @ .., a, b, c, d, w, x, y, z] => {
+            Some((before, u16::from_le_bytes([a, b]).into(), u16::from_le_bytes([c, d]).into(), [w, x, y, z]))
+        }
+        _ => None,
+    }
+}
+
+// Refusals 1 to 8. Thresholds are computed before n and t are admitted; those that are admitted have them within i16.
+fn read_table(part: &[u8], n: u8, t: u8, rules: &mut [Rule; 64]) -> Result<Table, Refusal> {
+    let (body, first_state, first_rule, counts) = parted(part).ok_or(refused(1, 0))?;
+    let [states, rule_count, types, factor] = counts.map(usize::from);
+    if states.wrapping_sub(1) >= 16
+        || rule_count.wrapping_sub(1) >= 64
+        || types.wrapping_sub(1) >= 4
+        || factor.wrapping_sub(1) >= 8
+    {
+        return Err(refused(2, 0));
+    }
+    let size = 2 + 3 * types;
+    if first_rule != rule_count * size || first_state != 2 * states + first_rule || body.len() != first_state {
+        return Err(refused(3, 0));
+    }
+    let (state_records, rule_records) = body.split_at(2 * states);
+    let mut sent = [0u8; 16];
+    let mut initial = 0;
+    for (i, (record, sent)) in state_records.chunks_exact(2).zip(&mut sent).enumerate() {
+        *sent = record[1];
+        if record[0] > 3 || record[1] >> types != 0 || (record[0] & 1 != 0 && record[1] != 0) {
+            return Err(refused(4, i));
+        }
+        initial |= u16::from(record[0] & 1) << i;
+    }
+    if initial == 0 {
+        return Err(refused(5, 0));
+    }
+    let (n, t) = (i32::from(n), i32::from(t));
+    for (r, (record, rule)) in rule_records.chunks_exact(size).zip(rules).enumerate() {
+        let (from, to) = (record[0], record[1]);
+        if usize::from(from) >= states || usize::from(to) >= states {
+            return Err(refused(6, r));
+        }
+        let (old, new) = (sent[usize::from(from)], sent[usize::from(to)]);
+        if old & !new != 0 {
+            return Err(refused(7, r));
+        }
+        let fresh = new & !old;
+        if fresh & fresh.wrapping_sub(1) != 0 {
+            return Err(refused(8, r));
+        }
+        rule.from = from;
+        rule.to = to;
+        rule.sends = fresh.trailing_zeros() as u8;
+        for (least, c) in rule.least.iter_mut().zip(record[2..].chunks_exact(3)) {
+            *least = (i32::from(c[0] as i8) * n + i32::from(c[1] as i8) * t + i32::from(c[2] as i8)) as i16;
+        }
+    }
+    Ok(Table { rules: rule_count, types, factor: factor as u32, initial })
+}
+
+// A bundle that is not refused by reading.
+struct Schedule<'a> {
+    rules: &'a [Rule],
+    types: usize,
+    n: usize,
+    f: usize,
+    counting: bool,
+    starts: &'a [u8],
+    steps: &'a [u8],
+}
+
+impl<'a> Schedule<'a> {
+    // Refusals 10 and 11, the table's, then 12 to 14.
+    fn read(bundle: &'a [u8], standing: &'a [u8], rules: &'a mut [Rule; 64]) -> Result<Schedule<'a>, Refusal> {
+        let (before, first_step, first_start, [n, t, f, form]) = parted(bundle).ok_or(refused(10, 0))?;
+        if first_start > before.len() {
+            return Err(refused(11, 0));
+        }
+        let (front, schedule) = before.split_at(before.len() - first_start);
+        let table = read_table(if front.is_empty() { standing } else { front }, n, t, rules)?;
+        if n.wrapping_sub(1) >= 64 || u32::from(n) <= table.factor * u32::from(t) || f > t || form > 1 {
+            return Err(refused(12, 0));
+        }
+        let correct = usize::from(n - f);
+        if first_step % 4 != 0 || first_step > 16_384 || first_start != first_step + correct {
+            return Err(refused(13, 0));
+        }
+        let (starts, steps) = schedule.split_at(correct);
+        if let Some(p) = starts.iter().position(|&s| s >= 16 || table.initial >> s & 1 == 0) {
+            return Err(refused(14, p));
+        }
+        let rules = &rules[..table.rules];
+        Ok(Schedule { rules, types: table.types, n: n.into(), f: f.into(), counting: form == 1, starts, steps })
+    }
+
+    // How many words a board has for what it received.
+    fn row<const COUNTING: bool>(&self) -> usize {
+        self.types << usize::from(COUNTING)
+    }
+
+    // How many words the configuration has.
+    fn room(&self) -> usize {
+        let row = if self.counting { self.row::<true>() } else { self.row::<false>() };
+        self.starts.len() * (1 + row) + self.types
+    }
+
+    // The senders below c.
+    fn below(c: usize) -> u64 {
+        !(!0u64).checked_shl(c as u32).unwrap_or(0)
+    }
+
+    // The faulty senders.
+    fn faulty(&self) -> u64 {
+        Self::below(self.n) & !Self::below(self.starts.len())
+    }
+
+    // The configuration after all steps, or after those before the first refused one; 20 to 25.
+    fn run(&self, words: &mut [u64]) -> Result<(), Refusal> {
+        let (states, rest) = words.split_at_mut(self.starts.len());
+        for (state, &start) in states.iter_mut().zip(self.starts) {
+            *state = start.into();
+        }
+        rest.fill(0);
+        if self.counting {
+            self.take_all::<true>(states, rest)
+        } else {
+            self.take_all::<false>(states, rest)
+        }
+    }
+
+    fn take_all<const COUNTING: bool>(&self, states: &mut [u64], rest: &mut [u64]) -> Result<(), Refusal> {
+        let (cells, sent) = rest.split_at_mut(states.len() * self.row::<COUNTING>());
+        let faulty = self.faulty();
+        for (i, record) in self.steps.chunks_exact(4).enumerate() {
+            let record = [record[0], record[1], record[2], record[3]];
+            if let Err(number) = self.take::<COUNTING>(states, cells, sent, faulty, record) {
+                return Err(refused(number, i));
+            }
+        }
+        Ok(())
+    }
+
+    // One step: the refusals of one record in their order, each where the bound that it names is needed.
+    #[inline(always)]
+    fn take<const COUNTING: bool>(
+        &self,
+        states: &mut [u64],
+        cells: &mut [u64],
+        sent: &mut [u64],
+        faulty: u64,
+        record: [u8; 4],
+    ) -> Result<(), u8> {
+        let [p, r, m, q] = record.map(usize::from);
+        let state = states.get_mut(p).ok_or(20)?;
+        let rule = self.rules.get(r).ok_or(21)?;
+        if *state != u64::from(rule.from) {
+            return Err(22);
+        }
+        let row = &mut cells[p * self.row::<COUNTING>()..][..self.row::<COUNTING>()];
+        let silent = m & q == 255;
+        if !silent {
+            let sources = if COUNTING { 2 } else { self.n };
+            if m >= sent.len() || q >= sources {
+                return Err(23);
+            }
+            let in_transit = if COUNTING {
+                row[2 * m + q] < if q == 0 { sent[m] } else { self.f as u64 }
+            } else {
+                (sent[m] | faulty) & !row[m] & (1 << q) != 0
+            };
+            if !in_transit {
+                return Err(24);
+            }
+        }
+        for (i, &least) in rule.least.iter().enumerate().take(self.types) {
+            if total::<COUNTING>(row, i) + i16::from(i == m) < least {
+                return Err(25);
+            }
+        }
+        if !silent {
+            if COUNTING {
+                row[2 * m + q] += 1;
+            } else {
+                row[m] |= 1 << q;
+            }
+        }
+        *state = rule.to.into();
+        if let Some(sent) = sent.get_mut(usize::from(rule.sends)) {
+            *sent = if COUNTING { *sent + 1 } else { *sent | 1 << p };
+        }
+        Ok(())
+    }
+
+    // Steps that run in message form, each sender made its tag.
+    fn write_tags(&self, steps: &mut [u8]) {
+        let correct = self.starts.len();
+        for record in steps.chunks_exact_mut(4) {
+            if record[2] != 255 {
+                record[3] = u8::from(usize::from(record[3]) >= correct);
+            }
+        }
+    }
+
+    // Steps that run in counting form, each tag made the lowest sender in transit; only the sets are followed.
+    fn write_senders(&self, steps: &mut [u8]) {
+        let faulty = self.faulty();
+        let mut got = [[0u64; 4]; 64];
+        let mut sent = [0u64; 4];
+        for record in steps.chunks_exact_mut(4) {
+            let p = usize::from(record[0]);
+            if record[2] != 255 {
+                let m = usize::from(record[2]);
+                let class = if record[3] == 0 { sent[m] } else { faulty };
+                let q = (class & !got[p][m]).trailing_zeros();
+                got[p][m] |= 1u64.wrapping_shl(q);
+                record[3] = q as u8;
+            }
+            if let Some(sent) = sent.get_mut(usize::from(self.rules[usize::from(record[1])].sends)) {
+                *sent |= 1 << p;
+            }
+        }
+    }
+
+    // The first possible step. Where none is possible without a message, one is only where a single type lacks a single
+    // message, and that is in transit.
+    fn first<const COUNTING: bool>(&self, words: &[u64]) -> Option<Step> {
+        let (states, rest) = words.split_at(self.starts.len());
+        let (cells, sent) = rest.split_at(states.len() * self.row::<COUNTING>());
+        for ((p, &state), row) in states.iter().enumerate().zip(cells.chunks_exact(self.row::<COUNTING>())) {
+            let mut counts = [0i16; 4];
+            for (m, count) in counts.iter_mut().enumerate().take(self.types) {
+                *count = total::<COUNTING>(row, m);
+            }
+            for (r, rule) in self.rules.iter().enumerate() {
+                if state != u64::from(rule.from) {
+                    continue;
+                }
+                let (mut lacking, mut lacks) = (0, 0);
+                for (m, (&count, &least)) in counts.iter().zip(&rule.least).enumerate().take(self.types) {
+                    if count < least {
+                        lacking = m;
+                        lacks += i32::from(least - count);
+                    }
+                }
+                let (board, rule) = (p as u8, r as u8);
+                if lacks == 0 {
+                    return Some(Step { board, rule, kind: 255, source: 255 });
+                }
+                if lacks == 1 {
+                    if let Some(source) = self.lowest::<COUNTING>(row, sent, lacking) {
+                        return Some(Step { board, rule, kind: lacking as u8, source });
+                    }
+                }
+            }
+        }
+        None
+    }
+
+    // The lowest source whose message of type m is in transit to the board of the row.
+    fn lowest<const COUNTING: bool>(&self, row: &[u64], sent: &[u64], m: usize) -> Option<u8> {
+        if !COUNTING {
+            let waiting = (sent[m] | self.faulty()) & !row[m];
+            (waiting != 0).then_some(waiting.trailing_zeros() as u8)
+        } else if row[2 * m] < sent[m] {
+            Some(0)
+        } else {
+            (row[2 * m + 1] < self.f as u64).then_some(1)
+        }
+    }
+}
+
+// How many messages of type m a board has: the ones of a set, or two counts.
+fn total<const COUNTING: bool>(row: &[u64], m: usize) -> i16 {
+    if COUNTING {
+        (row[2 * m] + row[2 * m + 1]) as i16
+    } else {
+        row[m].count_ones() as i16
+    }
+}

@@ -1,0 +1,74 @@
+/* The deepest stack of each exported call, its return address included: each is called on a painted stack of its own, on
+ * schedule W in both forms, and the lowest byte that lost its paint is looked up. Prints 'NAME BYTES'. */
+#define _XOPEN_SOURCE 600
+#include "macaroosh.h"
+
+#include <stdio.h>
+#include <string.h>
+#include <ucontext.h>
+
+#define PAINT 0xA5
+
+static const uint8_t echo[] = {
+    0x01, 0x00, 0x01, 0x00, 0x00, 0x01, 0x02, 0x01, 0x00, 0x00, 0x00, 0x00, 0x00, 0x00, 0x02, 0x00, 0x01,
+    0x01, 0x00, 0x03, 0x01, 0xFF, 0x00, 0x01, 0x02, 0x00, 0x00, 0x00, 0x02, 0x02, 0x00, 0x00, 0x00, 0x02,
+    0x03, 0x01, 0xFF, 0x00, 0x03, 0x03, 0x00, 0x00, 0x00, 0x2B, 0x00, 0x23, 0x00, 0x04, 0x07, 0x01, 0x03,
+};
+static const uint8_t forms[2][31] = {
+    {
+        0x01, 0x01, 0x01, 0x00, 0x03, 0xFF, 0xFF, 0x01, 0x03, 0xFF, 0xFF, 0x02, 0x03, 0x00, 0x00, 0x02,
+        0x04, 0x00, 0x03, 0x02, 0x05, 0x00, 0x01, 0x14, 0x00, 0x17, 0x00, 0x04, 0x01, 0x01, 0x00,
+    },
+    {
+        0x01, 0x01, 0x01, 0x00, 0x03, 0xFF, 0xFF, 0x01, 0x03, 0xFF, 0xFF, 0x02, 0x03, 0x00, 0x00, 0x02,
+        0x04, 0x00, 0x01, 0x02, 0x05, 0x00, 0x00, 0x14, 0x00, 0x17, 0x00, 0x04, 0x01, 0x01, 0x01,
+    },
+};
+
+static uint8_t stack[1 << 16], out[31];
+static uint64_t words[MACAROOSH_MOST_WORDS];
+static const uint8_t *w;
+static ucontext_t here, there;
+
+/* Takes what a call takes at least, its return address; called by a pointer, so that it is called as the others are. */
+static uint64_t idle(void) { return 0; }
+static uint64_t (*volatile least)(void) = idle;
+
+/* The result is looked at, so that no call is a jump. */
+static volatile uint64_t answer;
+static void nothing(void) { answer = least(); }
+static void run(void) { answer = macaroosh_run(w, 31, echo, sizeof echo, words, MACAROOSH_MOST_WORDS); }
+static void translate(void) { answer = macaroosh_translate(w, 31, echo, sizeof echo, out, sizeof out); }
+static void first_step(void) { answer = macaroosh_first_step(w, 31, echo, sizeof echo); }
+
+/* How many bytes of the painted stack a call took. */
+static size_t taken(void (*call)(void)) {
+    size_t i = 0;
+    memset(stack, PAINT, sizeof stack);
+    getcontext(&there);
+    there.uc_stack.ss_sp = stack;
+    there.uc_stack.ss_size = sizeof stack;
+    there.uc_link = &here;
+    makecontext(&there, call, 0);
+    swapcontext(&here, &there);
+    while (stack[i] == PAINT) i++;
+    return sizeof stack - i;
+}
+
+static void measure(const char *name, void (*call)(void)) {
+    size_t base = taken(nothing), most = 0, form;
+    for (form = 0; form < 2; form++) {
+        size_t bytes;
+        w = forms[form];
+        bytes = taken(call) - base + sizeof(void *);
+        if (bytes > most) most = bytes;
+    }
+    printf("%s %u\n", name, (unsigned)most);
+}
+
+int main(void) {
+    measure("macaroosh_run", run);
+    measure("macaroosh_translate", translate);
+    measure("macaroosh_first_step", first_step);
+    return 0;
+}
