@@ -1,25 +1,28 @@
-//! The library against the model on seeded bundles, every lent word and byte. `SEEDS=n` tries more than 20,000.
+//! The library and the hand-written fast version against the model on seeded bundles, every lent word and byte. `SEEDS=n` tries
+//! more than 20,000.
 
 use macaroosh::bundles::{case, each_seed, seeds, Dice};
+use macaroosh::cases::cases;
 use macaroosh::compare::compare;
+use macaroosh::fast::Fast;
 use macaroosh::model::Model;
-use macaroosh::{refusals, Library};
+use macaroosh::{refusals, Bench, Library, ECHO};
 use std::collections::BTreeMap;
 
-// The refusals that came up on the way.
-fn agrees(seed: u64) -> Vec<u8> {
+// The refusals of run and translation that came up on the seed's bundle.
+fn agrees(bench: &dyn Bench, seed: u64) -> Vec<u8> {
     let dice = &mut Dice::new(seed);
     let (bundle, standing) = case(dice);
-    compare(&Model, &Library, &bundle, &standing, dice).unwrap_or_else(|difference| {
+    compare(&Model, bench, &bundle, &standing, dice).unwrap_or_else(|difference| {
         panic!("seed {seed}: {difference}\nbundle {bundle:02x?}\nstanding {standing:02x?}")
     })
 }
 
-#[test]
-fn the_library_agrees_with_the_model() {
+// Agrees with the model on every seed, and the seeds come to every refusal.
+fn agrees_on_seeds(bench: &(dyn Bench + Sync)) {
     let seeds = seeds("SEEDS", 20_000);
     let mut seen: BTreeMap<u8, usize> = BTreeMap::new();
-    for number in each_seed(seeds, agrees).into_iter().flatten() {
+    for number in each_seed(seeds, |seed| agrees(bench, seed)).into_iter().flatten() {
         *seen.entry(number).or_default() += 1;
     }
     println!("{seeds} bundles, calls by refusal: {seen:?}");
@@ -28,4 +31,24 @@ fn the_library_agrees_with_the_model() {
         assert!(seen.contains_key(&line.number), "no bundle was refused with {}: {seen:?}", line.number);
     }
     assert!(seen.contains_key(&0), "no bundle was accepted: {seen:?}");
+}
+
+#[test]
+fn the_library_agrees_with_the_model() {
+    agrees_on_seeds(&Library);
+}
+
+#[test]
+fn the_fast_version_agrees_with_the_model() {
+    agrees_on_seeds(&Fast);
+}
+
+#[test]
+fn both_agree_with_the_model_on_what_is_measured() {
+    for case in cases() {
+        for bench in [&Library as &dyn Bench, &Fast] {
+            let compared = compare(&Model, bench, &case.bundle, &ECHO, &mut Dice::new(1));
+            assert!(compared.is_ok(), "{}: {compared:?}", case.name);
+        }
+    }
 }
