@@ -29,8 +29,7 @@ use Rattle.engine.specs.declared.Sizes.{Sizes}
 use Rattle.engine.specs.declared.Answer.{Answer}
 use Rattle.engine.specs.Design.{sizesOf, designOf, roomOf}
 use Rattle.engine.specs.Entry.{sizesIn, designIn, startOf, scheduleOf, ranWith, ranOf, unrun, ranAnswer, runAnswer}
-use Rattle.paper.proofs.FormLaws.{wide-some}
-use Rattle.engine.proofs.PlaceLaws.{words-few}
+use Rattle.engine.proofs.PlaceLaws.{rows-few, rows-are}
 use Rattle.engine.proofs.EntryLaws.{suits}
 use Rattle.translate.specs.Written.{moved, rewritten, translationWith}
 use Rattle.translate.specs.Entry.{translationOf, wrote, translateAnswer, translateBytes}
@@ -115,7 +114,7 @@ module _ (b standing : List ℕ) (S : Runs b standing) where
 
   -- the design depends on n, t, f and the table only
   abbrev design : ℕ → ℕ → ℕ → List ℕ → Design
-  design n t f table = designOf (record { form = 0; correct = n - f; faulty = f; t = t; types = typesOf table; rules = rulesOf table }) table
+  design n t f table = designOf (record { form = 0; correct = n - f; faulty = f; t = t; types = typesOf table; rules = rulesOf table; wide = 1; row = typesOf table }) table
 
   same-design : designIn c standing ≡ d
   same-design = λ i. design (same-n t b R new (1 - k) many i) (same-t t b R new (1 - k) many i) (same-f t b R new (1 - k) many i) (same-table t b R new (1 - k) many standing i)
@@ -207,7 +206,7 @@ unfolding size
 room-few b standing lent z l =
     let s = sizesIn b standing in
     let B = suits (tableInUse b standing) b (read-by b standing refl z refl) refl .bounded in
-    omega (arith, words-few s B (wide (s .form)) (wide-some (s .form) .1), B .boards, B .types)
+    omega (arith, rows-few s B, rows-are s B, B .boards, B .types)
 
 module _ (b standing : List ℕ) (lent : ℕ) (l : 580 ≤ lent) where
   -- what `run` answers where it refuses at reading, and else

@@ -32,7 +32,7 @@ use Rattle.engine.proofs.RunLaws.{run-holds}
 module _ (t b : List ℕ) (R : Read t b) where
   pub suits : {s : Sizes} → s ≡ sizesOf t b → Suits s t
   suits e = subst⁻¹ (λ (x : Sizes). Suits x t) e (record {
-    bounded = record { boards = omega (arith, R .all, R .admitted .few-boards); types = R .formed .sized .few-types; t = R .few-tolerated };
+    bounded = record { boards = omega (arith, R .all, R .admitted .few-boards); types = R .formed .sized .few-types; t = R .few-tolerated; wide = refl; row = refl };
     formed = R .formed;
     types = refl;
     rules = refl;

@@ -1,8 +1,8 @@
 -- Where cells and sent words stand: their numbers are small, and they lie inside a configuration.
-use mathlib.Core.Path.{_≡_, refl, ap, _∙_}
+use mathlib.Core.Path.{_≡_, refl, sym, ap, _∙_}
 use mathlib.Core.List.{List}
 use Prim.Native.Nat.{ℕ, zero, suc, _+_, _-_, _*_, _≤_, _<_}
-use native.Mathlib.Nat.{mul-le-mul}
+use native.Mathlib.Nat.{mul-le-mul, mul-assoc, add-mul}
 use native.Mathlib.Omega.{arith}
 use lib.Arith.{digits-lt}
 use lib.ListN.{getD}
@@ -13,19 +13,29 @@ use Rattle.engine.specs.declared.Sizes.{Sizes}
 use Rattle.engine.specs.Design.{roomOf}
 use Rattle.engine.specs.Facts.{Bounded, At}
 
-module _ (s : Sizes) (B : Bounded s) where
-  pub cells-few : s .correct * s .types ≤ 256
-  cells-few = mul-le-mul {n₂ = 64} {m₂ = 4} (omega (arith, B .boards)) (B .types)
+-- a cell by its row
+spread : (p T m k : ℕ) → p * (T * k) + m * k ≡ (p * T + m) * k
+spread p T m k = sym (add-mul (p * T) m k ∙ ap (λ (x : ℕ). x + m * k) (mul-assoc p T k))
 
-  pub words-few : (x : ℕ) → x ≤ 2 → s .correct * s .types * x ≤ 512
-  words-few x h = mul-le-mul {n₂ = 256} {m₂ = 2} cells-few h
+module _ (s : Sizes) (B : Bounded s) where
+  wide-few : s .wide ≤ 2
+  wide-few = rw (B .wide) (wide-some (s .form) .1)
+
+  row-few : s .row ≤ 8
+  row-few = rw (B .row) (mul-le-mul {n₂ = 4} {m₂ = 2} (B .types) wide-few)
+
+  pub rows-few : s .correct * s .row ≤ 512
+  rows-few = mul-le-mul {n₂ = 64} {m₂ = 8} (omega (arith, B .boards)) row-few
+
+  pub rows-are : s .correct * s .row ≡ s .correct * s .types * wide (s .form)
+  rows-are = rw (B .row, B .wide) (sym (mul-assoc (s .correct) (s .types) (wide (s .form))))
 
   module _ {p m : ℕ} (A : At s p m) where
-    pub row-few : p * s .types + m < 256
-    row-few = omega (arith, digits-lt {q = p} {m = s .correct} {r = m} {c = s .types} (A .board) (A .type), cells-few)
+    pub row-at-few : p * s .row ≤ 504
+    row-at-few = mul-le-mul {n₂ = 63} {m₂ = 8} (omega (arith, A .board, B .boards)) row-few
 
-    pub row-words-few : (x : ℕ) → x ≤ 2 → (p * s .types + m) * x ≤ 510
-    row-words-few x h = mul-le-mul {n₂ = 255} {m₂ = 2} (omega (arith, row-few)) h
+    pub cell-few : m * s .wide ≤ 6
+    cell-few = mul-le-mul {n₂ = 3} {m₂ = 2} (omega (arith, A .type, B .types)) wide-few
 
     pub cell-in-room : cellAt (s .correct) (s .types) (wide (s .form)) p m 0 + wide (s .form) ≤ roomOf s
     unfolding cellAt size
@@ -33,13 +43,13 @@ module _ (s : Sizes) (B : Bounded s) where
         let k = wide (s .form) in
         omega (arith, digits-lt {q = p * s .types + m} {m = s .correct * s .types} {r = k - 1} {c = k} (digits-lt (A .board) (A .type)) (omega (arith, wide-some (s .form) .0)), wide-some (s .form) .0)
 
-    -- `cell`, from what it has in hand
-    pub cell-is : (x : ℕ) → x ≡ wide (s .form) → s .correct + (p * s .types + m) * x ≡ cellAt (s .correct) (s .types) (wide (s .form)) p m 0
+    -- `cell_at`, from what it has in hand
+    pub cell-is : s .correct + p * s .row + m * s .wide ≡ cellAt (s .correct) (s .types) (wide (s .form)) p m 0
     unfolding cellAt
-    cell-is x e = rw e (omega arith)
+    cell-is = rw (B .row, B .wide) (omega (arith, spread p (s .types) m (wide (s .form))))
 
-    pub cell-inside : (x : ℕ) → x ≡ wide (s .form) → s .correct + (p * s .types + m) * x + wide (s .form) ≤ roomOf s
-    cell-inside x e = rw (cell-is x e) cell-in-room
+    pub cell-inside : s .correct + p * s .row + m * s .wide + wide (s .form) ≤ roomOf s
+    cell-inside = rw cell-is cell-in-room
 
 -- the words of a cell stand one after the other
 pub cell-next : (C T k p m e : ℕ) → cellAt C T k p m 0 + e ≡ cellAt C T k p m e

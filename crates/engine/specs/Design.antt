@@ -16,7 +16,7 @@ use Rattle.engine.specs.declared.Sizes.{Sizes}
 
 -- the numbers that a run goes by, from the trailers of the table and the bundle
 abbrev pub sizesOf : List ℕ → List ℕ → Sizes
-sizesOf table b = record { form = formOf b; correct = correctOf b; faulty = fOf b; t = tOf b; types = typesOf table; rules = rulesOf table }
+sizesOf table b = record { form = formOf b; correct = correctOf b; faulty = fOf b; t = tOf b; types = typesOf table; rules = rulesOf table; wide = wide (formOf b); row = typesOf table * wide (formOf b) }
 
 -- a·n + b·t + d, whose three bytes stand at `at`
 abbrev pub thresholdAt : List ℕ → ℕ → ℕ → ℕ → ℤ

@@ -1,19 +1,22 @@
 -- What the functions below the entry may count on; the entry proves it from what reading gives.
 use mathlib.Core.Path.{_≡_}
 use mathlib.Core.List.{List}
-use Prim.Native.Nat.{ℕ, _+_, _≤_, _<_}
+use Prim.Native.Nat.{ℕ, _+_, _*_, _≤_, _<_}
 use lib.ListN.{length, getD}
 use Rattle.table.specs.Table.{rulesOf, typesOf}
 use Rattle.table.specs.Facts.{WellFormed}
+use Rattle.paper.specs.Form.{wide}
 use Rattle.engine.specs.declared.Sizes.{Sizes}
 use Rattle.engine.specs.Design.{roomOf}
 use Rattle.engine.specs.Words.{columnIn}
 
--- the numbers are small enough
+-- the numbers are small enough, and those of the places are as the form says
 pub record Bounded (s : Sizes) : Type 0 where
   pub boards : s .correct + s .faulty ≤ 64
   pub types : s .types ≤ 4
   pub t : s .t ≤ 63
+  pub wide : s .wide ≡ wide (s .form)
+  pub row : s .row ≡ s .types * s .wide
 
 -- they are those of a well-formed table
 pub record Suits (s : Sizes) (table : List ℕ) : Type 0 where

@@ -26,6 +26,9 @@ pub struct Sizes {
     pub t: usize,
     pub types: usize,
     pub rules: usize,
+    // words of a cell, and of all cells of a board
+    pub wide: usize,
+    pub row: usize,
 }
 
 // Refusal, place and a count.
@@ -69,13 +72,18 @@ pub fn sizes_of(table: &[u8], bundle: &[u8]) -> Sizes
     requires { ⌜ (8 ≤ length (now table)) × (8 ≤ length (now bundle)) ⌝ }
     ensures { λ r. ⌜ r ≡ sizesOf (now (table .entry)) (now (bundle .entry)) ⌝ }
 {
+    let form = bundle::form(bundle);
+    let types = table::types(table);
+    let wide = form::wide(form);
     Sizes {
-        form: bundle::form(bundle),
+        form,
         correct: bundle::correct(bundle),
         faulty: bundle::f(bundle),
         t: bundle::t(bundle),
-        types: table::types(table),
+        types,
         rules: table::rules(table),
+        wide,
+        row: fault::times(types, wide),
     }
 }
 

@@ -24,7 +24,7 @@ pub fn sent_at(s: Sizes, m: usize) -> usize
     requires { ⌜ (Bounded s) × (m ≤ s .types) ⌝ }
     ensures { λ r. ⌜ (r ≡ sentAt (s .correct) (s .types) (forms.wide (s .form)) m) × (r ≤ 576 + m) ⌝ }
 {
-    s.correct + s.correct * s.types * form::wide(s.form) + m
+    s.correct + s.correct * s.row + m
 }
 
 // Where the cell of board p for type m begins.
@@ -32,7 +32,7 @@ pub fn cell_at(s: Sizes, p: usize, m: usize) -> usize
     requires { ⌜ (Bounded s) × (At s p m) ⌝ }
     ensures { λ r. ⌜ (r ≡ cellAt (s .correct) (s .types) (forms.wide (s .form)) p m 0) × (r + forms.wide (s .form) ≤ roomOf s) × (r ≤ 576) ⌝ }
 {
-    s.correct + (p * s.types + m) * form::wide(s.form)
+    s.correct + p * s.row + m * s.wide
 }
 
 // How many messages of type m board p has received.

@@ -73,8 +73,9 @@ module _ (t b : List ℕ) (R : Read t b) where
     low-form = ap (λ (x : Sizes). x .form) e
 
     pub low-suits : Suits s t
+    unfolding wide
     low-suits = let S = suits t b R refl in subst⁻¹ (λ (x : Sizes). Suits x t) e (record {
-      bounded = record { boards = S .bounded .boards; types = S .bounded .types; t = S .bounded .t };
+      bounded = record { boards = S .bounded .boards; types = S .bounded .types; t = S .bounded .t; wide = refl; row = omega arith };
       formed = S .formed;
       types = refl;
       rules = refl;

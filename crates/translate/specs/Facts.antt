@@ -13,7 +13,7 @@ use Rattle.engine.specs.Words.{transitIn}
 
 -- the same numbers, in message form
 abbrev pub inMessageForm : Sizes → Sizes
-inMessageForm s = record { form = 0; correct = s .correct; faulty = s .faulty; t = s .t; types = s .types; rules = s .rules }
+inMessageForm s = record { form = 0; correct = s .correct; faulty = s .faulty; t = s .t; types = s .types; rules = s .rules; wide = 1; row = s .types }
 
 -- the lowest sender of the tag whose message of type m is in transit to board p
 abbrev pub lowestIn : Sizes → List ℕ → ℕ → ℕ → ℕ → ℕ

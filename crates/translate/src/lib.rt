@@ -167,6 +167,8 @@ fn message_form(s: Sizes) -> Sizes
         t: s.t,
         types: s.types,
         rules: s.rules,
+        wide: 1,
+        row: s.types,
     }
 }
 

@@ -1,6 +1,5 @@
 use native.Mathlib.Omega.{arith}
-use borrow.Author.Needs.{needs}
-use Rattle.engine.proofs.PlaceLaws.{row-few, row-words-few, cell-is, cell-inside}
+use Rattle.engine.proofs.PlaceLaws.{row-at-few, cell-few, cell-is, cell-inside}
 use Rattle.engine.proofs.words.cell_at.Statement.{statement}
 use Rattle.engine.proofs.words.cell_at.Tie as tie
 
@@ -9,18 +8,12 @@ cell-at-spec =
     tie.close
     (tie.spec
     (λ c. let st = c .before in
-    let a = st .args in
-    omega (arith, row-few (a .s) (st .pre .0) (st .pre .1)))
-    (λ c. let st = c .before in
-    let a = st .args in
-    omega (arith, row-few (a .s) (st .pre .0) (st .pre .1)))
-    (λ c κs. search needs)
+    omega (arith, row-at-few (st .args .s) (st .pre .0) (st .pre .1)))
     (λ c. let st = c .before .before in
-    let a = st .args in
-    omega (arith, row-words-few (a .s) (st .pre .0) (st .pre .1) (c .wide .result) (c .wide .ensures .2)))
+    omega (arith, row-at-few (st .args .s) (st .pre .0) (st .pre .1), st .pre .0 .boards))
     (λ c. let st = c .before .before .before in
-    let a = st .args in
-    omega (arith, row-words-few (a .s) (st .pre .0) (st .pre .1) (c .before .wide .result) (c .before .wide .ensures .2)))
+    omega (arith, cell-few (st .args .s) (st .pre .0) (st .pre .1)))
     (λ c. let st = c .before .before .before in
-    let a = st .args in
-    (cell-is (a .s) (st .pre .0) (st .pre .1) (c .before .wide .result) (c .before .wide .ensures .0), cell-inside (a .s) (st .pre .0) (st .pre .1) (c .before .wide .result) (c .before .wide .ensures .0), omega (arith, row-words-few (a .s) (st .pre .0) (st .pre .1) (c .before .wide .result) (c .before .wide .ensures .2)))))
+    omega (arith, row-at-few (st .args .s) (st .pre .0) (st .pre .1), cell-few (st .args .s) (st .pre .0) (st .pre .1), st .pre .0 .boards))
+    (λ c. let st = c .before .before .before in
+    (cell-is (st .args .s) (st .pre .0) (st .pre .1), cell-inside (st .args .s) (st .pre .0) (st .pre .1), omega (arith, row-at-few (st .args .s) (st .pre .0) (st .pre .1), cell-few (st .args .s) (st .pre .0) (st .pre .1), st .pre .0 .boards))))

@@ -1,6 +1,5 @@
 use native.Mathlib.Omega.{arith}
-use borrow.Author.Needs.{needs}
-use Rattle.engine.proofs.PlaceLaws.{cells-few, words-few}
+use Rattle.engine.proofs.PlaceLaws.{rows-few, rows-are}
 use Rattle.paper.specs.Words.{sentAt}
 use Rattle.engine.proofs.words.sent_at.Statement.{statement}
 use Rattle.engine.proofs.words.sent_at.Tie as tie
@@ -11,18 +10,10 @@ sent-at-spec =
     tie.close
     (tie.spec
     (λ c. let st = c .before in
-    let a = st .args in
-    omega (arith, cells-few (a .s) (st .pre .0)))
-    (λ c κs. search needs)
+    omega (arith, rows-few (st .args .s) (st .pre .0)))
     (λ c. let st = c .before .before in
-    let a = st .args in
-    omega (arith, words-few (a .s) (st .pre .0) (c .wide .result) (c .wide .ensures .2)))
-    (λ c. let st = c .before .before .before in
-    let a = st .args in
-    omega (arith, words-few (a .s) (st .pre .0) (c .before .wide .result) (c .before .wide .ensures .2)))
-    (λ c. let st = c .before .before .before in
-    let a = st .args in
-    omega (arith, words-few (a .s) (st .pre .0) (c .before .wide .result) (c .before .wide .ensures .2)))
-    (λ c. let st = c .before .before .before in
-    let a = st .args in
-    (rw (c .before .wide .ensures .0), omega (arith, words-few (a .s) (st .pre .0) (c .before .wide .result) (c .before .wide .ensures .2)))))
+    omega (arith, rows-few (st .args .s) (st .pre .0), st .pre .0 .boards))
+    (λ c. let st = c .before .before in
+    omega (arith, rows-few (st .args .s) (st .pre .0), st .pre .0 .boards))
+    (λ c. let st = c .before .before in
+    (rw (rows-are (st .args .s) (st .pre .0)), omega (arith, rows-few (st .args .s) (st .pre .0), st .pre .0 .boards))))
