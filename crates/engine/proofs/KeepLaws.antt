@@ -66,6 +66,9 @@ under-heard s tab w p r m q k n h = go (silent (stepOf p r m q))
 pub holds-more : (s : Sizes) (j k : ℕ) (w : List ℕ) → j ≤ k → Holds s j w → Holds s k w
 holds-more s j k w l h = record { fits = h .fits; small = λ n. under-more j k w l (h .small n) }
 
+pub holds-put : (s : Sizes) (k : ℕ) (w : List ℕ) (i v : ℕ) → Holds s k w → v ≤ k → Holds s k (set w i v)
+holds-put s k w i v H l = record { fits = length-set w i v ∙ H .fits; small = λ n. under-set w i v k (H .small n) l }
+
 module _ (s : Sizes) (tab w : List ℕ) (p r m q k : ℕ) (H : Holds s k w) where
   abbrev v₁ : List ℕ
   v₁ = heard (s .form) (designOf s tab) w (stepOf p r m q)

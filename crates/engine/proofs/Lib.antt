@@ -1,5 +1,6 @@
 pub mod FormCases
 pub mod PlaceLaws
+pub mod RuleLaws
 pub mod StepLaws
 pub mod KeepLaws
 pub mod RunLaws

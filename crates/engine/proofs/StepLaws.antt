@@ -15,15 +15,16 @@ use Rattle.fault.specs.Fault.{_if_else_}
 use Rattle.fault.proofs.FaultLaws.{if-yes, if-no}
 use Rattle.fault.proofs.TestLaws.{or-none, same}
 use Rattle.table.specs.Table as tables
-use Rattle.table.specs.Table.{statesOf, rulesOf, fromOf, toOf, ruleAt}
+use Rattle.table.specs.Table.{statesOf, rulesOf, fromOf, toOf, ruleAt, coefficientsAt}
+use Rattle.paper.specs.Paper.{Design, Step}
 use Rattle.paper.specs.Words.{size, state, sent, sentAt, tell}
 use Rattle.paper.specs.Step.{malformed, notInTransit, notMet, stepFault}
 use Rattle.paper.proofs.WordLaws.{tell-none, tell-one}
 use Rattle.paper.proofs.StepLaws.{Arrives, Accepted, accepted, named-of, transit-of, count-heard}
 use Rattle.engine.specs.declared.Sizes.{Sizes}
 use Rattle.engine.specs.Design.{metAt, designOf, stepOf, roomOf}
-use Rattle.engine.specs.Words.{columnIn, countIn, silentBytes, malformedIn}
-use Rattle.engine.specs.Facts.{Suits, At, Source}
+use Rattle.engine.specs.Words.{columnIn, countIn, transitIn, silentBytes, malformedIn}
+use Rattle.engine.specs.Facts.{Suits, At, Source, Leaves}
 
 -- ---- the message that a step names
 module _ {b : Bool} (s : Sizes) (p m q : ℕ) (h : malformedIn s m q ≡ false) (e : b ≡ silentBytes m q) (f : b ≡ false) where
@@ -80,7 +81,7 @@ granted s tab w p r m q S h =
       one-new = rw (S .types) (F .one-new);
     }
 
--- ---- `check_step`, from what it has in hand
+-- ---- the checks, from what the code has in hand
 pub below : {b : Bool} (x limit : ℕ) → b ≡ (x atLeast limit) → b ≡ false → x < limit
 below x limit e f = leb-false limit x (sym e ∙ f)
 
@@ -88,18 +89,23 @@ pub board-in-room : (s : Sizes) (p : ℕ) → p < s .correct → p < roomOf s
 unfolding size
 board-in-room s p h = omega arith
 
-module _ (s : Sizes) (tab w : List ℕ) (p r m q : ℕ) where
-  pub arrives-by : {a b e f g : Bool} → a ≡ (p atLeast s .correct) → a ≡ false → b ≡ (r atLeast s .rules) → b ≡ false
-      → e ≡ (state w p differs fromOf tab r) → e ≡ false → f ≡ malformedIn s m q → f ≡ false → g ≡ notInTransit (s .form) (designOf s tab) w (stepOf p r m q) → g ≡ false
-      → Arrives (s .form) (designOf s tab) w (stepOf p r m q)
-  unfolding malformed
-  arrives-by a a′ b b′ e e′ f f′ g g′ = record {
-    board = below p (s .correct) a a′;
-    rule = below r (s .rules) b b′;
-    leaves = same _ _ (sym e ∙ e′);
-    named = named-of (s .form) (designOf s tab) w (stepOf p r m q) (sym f ∙ f′);
-    transit = transit-of (s .form) (designOf s tab) w (stepOf p r m q) (sym g ∙ g′);
-  }
+pub leaves-by : {a b e : Bool} (s : Sizes) (tab w : List ℕ) (p r : ℕ) → a ≡ (p atLeast s .correct) → a ≡ false → b ≡ (r atLeast s .rules) → b ≡ false
+    → e ≡ (state w p differs fromOf tab r) → e ≡ false → Leaves s tab w p r
+leaves-by s tab w p r a a′ b b′ e e′ = record { board = below p (s .correct) a a′; rule = below r (s .rules) b b′; from = same _ _ (sym e ∙ e′) }
+
+module _ {a : Bool} (s : Sizes) (tab w : List ℕ) (p r m q : ℕ) (e : a ≡ (p atLeast s .correct)) where
+  pub fault-board : a ≡ true → 20 ≡ stepFault (s .form) (designOf s tab) w (stepOf p r m q)
+  unfolding stepFault
+  fault-board f = if-yes _ refl e f
+
+  module _ {b : Bool} (f : a ≡ false) (g : b ≡ (r atLeast s .rules)) where
+    pub fault-rule : b ≡ true → 21 ≡ stepFault (s .form) (designOf s tab) w (stepOf p r m q)
+    unfolding stepFault
+    fault-rule h = if-no 20 e f (if-yes _ refl g h)
+
+    pub fault-state : {c : Bool} → b ≡ false → c ≡ (state w p differs fromOf tab r) → c ≡ true → 22 ≡ stepFault (s .form) (designOf s tab) w (stepOf p r m q)
+    unfolding stepFault
+    fault-state h i j = if-no 20 e f (if-no 21 g h (if-yes _ refl i j))
 
 -- ---- the thresholds: the counts after the receipt, from those before it
 module _ (s : Sizes) (tab w : List ℕ) (p r m q : ℕ) (S : Suits s tab) (l : length w ≡ roomOf s) (A : Arrives (s .form) (designOf s tab) w (stepOf p r m q)) where
@@ -119,6 +125,58 @@ module _ (s : Sizes) (tab w : List ℕ) (p r m q : ℕ) (S : Suits s tab) (l : l
   not-met-is = ap not (every-same (s .types) _ _ (λ i h.
       ap (metAt tab (ruleAt tab r + 2 + 3 * i) (s .correct + s .faulty) (s .t))
       (count-heard (s .form) (designOf s tab) w (stepOf p r m q) l A i h ∙ ap (λ (x : ℕ). countIn s w p i + x) (silent-type i h))))
+
+-- ---- a step past its first checks
+module _ (s : Sizes) (tab w : List ℕ) (p r m q : ℕ) (S : Suits s tab) (l : length w ≡ roomOf s) (L : Leaves s tab w p r) where
+  abbrev d : Design
+  d = designOf s tab
+
+  abbrev x : Step
+  x = stepOf p r m q
+
+  past : {k : ℕ} → k ≡ (23 if malformed (s .form) d x else 24 if notInTransit (s .form) d w x else 25 if notMet (s .form) d w x else 0) → k ≡ stepFault (s .form) d w x
+  unfolding stepFault
+  past e = if-no 20 refl (lt-leb _ _ (L .board)) (if-no 21 refl (lt-leb _ _ (L .rule)) (if-no 22 refl (ap not (eq-eqb _ _ (L .from))) e))
+
+  pub fault-malformed : {a : Bool} → a ≡ malformedIn s m q → a ≡ true → 23 ≡ stepFault (s .form) d w x
+  unfolding malformed
+  fault-malformed e f = past (if-yes _ refl e f)
+
+  module _ {a : Bool} (e : a ≡ malformedIn s m q) (f : a ≡ false) where
+    pub fault-away : {b : Bool} → b ≡ (not (silentBytes m q) && not (transitIn s w p m q)) → b ≡ true → 24 ≡ stepFault (s .form) d w x
+    unfolding malformed notInTransit
+    fault-away g h = past (if-no 23 e f (if-yes _ refl g h))
+
+    module _ {b : Bool} (g : b ≡ (not (silentBytes m q) && not (transitIn s w p m q))) (h : b ≡ false) where
+      arrives : Arrives (s .form) d w x
+      unfolding malformed notInTransit
+      arrives = record {
+        board = L .board;
+        rule = L .rule;
+        leaves = L .from;
+        named = named-of (s .form) d w x (sym e ∙ f);
+        transit = transit-of (s .form) d w x (sym g ∙ h);
+      }
+
+      module _ {c : Bool} (i : c ≡ not (every (s .types) (λ i. metAt tab (coefficientsAt tab r i) (s .correct + s .faulty) (s .t) (countIn s w p i + digit (eqb m i))))) where
+        met : c ≡ notMet (s .form) d w x
+        met = i ∙ sym (not-met-is s tab w p r m q S l arrives)
+
+        pub fault-unmet : c ≡ true → 25 ≡ stepFault (s .form) d w x
+        unfolding malformed notInTransit
+        fault-unmet j = past (if-no 23 e f (if-no 24 g h (if-yes _ refl met j)))
+
+        pub fault-none : c ≡ false → 0 ≡ stepFault (s .form) d w x
+        unfolding malformed notInTransit
+        fault-none j = past (if-no 23 e f (if-no 24 g h (if-no 25 met j refl)))
+
+-- no message is neither malformed nor away
+module _ (s : Sizes) (w : List ℕ) (p m q : ℕ) (z : silentBytes m q ≡ true) where
+  pub silent-formed : false ≡ malformedIn s m q
+  silent-formed = rw z
+
+  pub silent-there : false ≡ (not (silentBytes m q) && not (transitIn s w p m q))
+  silent-there = rw z
 
 -- ---- `step`, from what it has in hand
 pub step-left : {x y : ℕ} (u w : List ℕ) → x ≡ y → (x ≡ 0 → ⊥) → w ≡ (u if eqb y 0 else w)

@@ -3,8 +3,9 @@ use mathlib.Core.Bool.{Bool}
 use mathlib.Core.List.{List}
 use Prim.Native.Nat.{ℕ, _+_, _*_}
 use lib.IntN.{ℤ}
-use Rattle.senders.specs.Set.{mem}
-use Rattle.threshold.specs.Threshold.{thresholdOf, metBy}
+use Rattle.senders.specs.Tally.{least}
+use Rattle.senders.specs.Set.{mem, missing}
+use Rattle.threshold.specs.Threshold.{thresholdOf, metBy, leastOf}
 use Rattle.fault.specs.Bytes.{byteAt}
 use Rattle.table.specs.Table as table
 use Rattle.table.specs.Table.{rulesOf, typesOf, initialOf, fromOf, toOf, coefficientsAt}
@@ -24,6 +25,14 @@ thresholdAt table at n t = thresholdOf (byteAt table at) (byteAt table (at + 1))
 
 unfoldable pub metAt : List ℕ → ℕ → ℕ → ℕ → ℕ → Bool
 metAt table at n t count = metBy count (thresholdAt table at n t)
+
+-- the least count that meets it
+abbrev pub leastAt : List ℕ → ℕ → ℕ → ℕ → ℕ
+leastAt table at n t = leastOf (thresholdAt table at n t)
+
+-- the type that rule r sends: the lowest that its end has sent and its start has not; T where there is none
+abbrev pub sendsOf : ℕ → List ℕ → ℕ → ℕ
+sendsOf T tab r = least T (missing (table.sentOf tab (toOf tab r)) (table.sentOf tab (fromOf tab r)))
 
 -- the design: n is the correct boards and the faulty ones
 abbrev pub designOf : Sizes → List ℕ → Design

@@ -12,10 +12,11 @@ ghost use Rattle.paper.specs.Run.{stepsIn};
 ghost use Rattle.paper.specs.Run as runs;
 ghost use Rattle.engine.specs.Design.{sizesOf, designOf, recordAt, roomOf};
 ghost use Rattle.engine.specs.Entry.{ranAnswer, ranWith, runAnswer, runWords};
-ghost use Rattle.engine.specs.Facts.{Suits, Holds};
+ghost use Rattle.engine.specs.Facts.{Suits, Kept, Holds};
 
 pub mod form; // functions of the form's number
 pub mod words; // the words of a configuration
+pub mod rules; // the rules as a run keeps them
 pub mod step; // one step
 
 // The numbers that a run goes by.
@@ -53,7 +54,27 @@ pub fn run<'a>(bundle: &'a [u8], standing: &'a [u8], lent: &mut [u64]) -> Answer
     if lent.len() < need {
         return answered(30, 0, 0);
     }
-    run_in(table, bundle, s, &mut lent[..need])
+    // The most that a table has: 64 rules.
+    let mut ends = [0u8; 256];
+    let mut leasts = [0u16; 256];
+    run_kept(table, bundle, s, &mut ends, &mut leasts, &mut lent[..need])
+}
+
+// The same for a bundle that was read, in words of the right number, with room for its rules.
+fn run_kept(
+    table: &[u8],
+    bundle: &[u8],
+    s: Sizes,
+    ends: &mut [u8],
+    leasts: &mut [u16],
+    w: &mut [u64],
+) -> Answer
+    requires { ⌜ (Read (now table) (now bundle)) × (s ≡ sizesOf (now table) (now bundle)) × (length (now ends) ≡ 256) × (length (now leasts) ≡ 256) × (length (now w) ≡ roomOf s) ⌝ }
+    ensures { λ r. ⌜ r ≡ ranAnswer (ranWith (now (table .entry)) (now (bundle .entry))) ⌝ }
+    ensures { λ r. ⌜ now (w .exit) ≡ ranWith (now (table .entry)) (now (bundle .entry)) .words ⌝ }
+{
+    rules::keep(table, s, ends, leasts);
+    run_in(table, bundle, s, ends, leasts, w)
 }
 
 // The answer of three numbers.
@@ -88,13 +109,20 @@ pub fn sizes_of(table: &[u8], bundle: &[u8]) -> Sizes
 }
 
 // The schedule of a bundle that was read, from its starts, in words of the right number.
-pub fn run_in(table: &[u8], bundle: &[u8], s: Sizes, w: &mut [u64]) -> Answer
-    requires { ⌜ (Read (now table) (now bundle)) × (s ≡ sizesOf (now table) (now bundle)) × (length (now w) ≡ roomOf s) ⌝ }
+pub fn run_in(
+    table: &[u8],
+    bundle: &[u8],
+    s: Sizes,
+    ends: &[u8],
+    leasts: &[u16],
+    w: &mut [u64],
+) -> Answer
+    requires { ⌜ (Read (now table) (now bundle)) × (s ≡ sizesOf (now table) (now bundle)) × (Kept s (now table) (now ends) (now leasts)) × (length (now w) ≡ roomOf s) ⌝ }
     ensures { λ r. ⌜ r ≡ ranAnswer (ranWith (now (table .entry)) (now (bundle .entry))) ⌝ }
     ensures { λ r. ⌜ now (w .exit) ≡ ranWith (now (table .entry)) (now (bundle .entry)) .words ⌝ }
 {
     begin(bundle::starts(bundle), s, w);
-    run_steps(table, s, bundle::steps(bundle), w)
+    run_steps(table, s, ends, leasts, bundle::steps(bundle), w)
 }
 
 // The first configuration.
@@ -121,15 +149,22 @@ fn start_word(starts: &[u8], i: usize) -> u64
 }
 
 // The steps one after the other, up to the first that is refused.
-fn run_steps(table: &[u8], s: Sizes, steps: &[u8], w: &mut [u64]) -> Answer
-    requires { ⌜ (Suits s (now table)) × (Holds s 16 (now w)) × (length (now steps) ≤ 16384) × (length (now steps) ≡ length (now steps) / 4 * 4) ⌝ }
+fn run_steps(
+    table: &[u8],
+    s: Sizes,
+    ends: &[u8],
+    leasts: &[u16],
+    steps: &[u8],
+    w: &mut [u64],
+) -> Answer
+    requires { ⌜ (Suits s (now table)) × (Kept s (now table) (now ends) (now leasts)) × (Holds s 16 (now w)) × (length (now steps) ≤ 16384) × (length (now steps) ≡ length (now steps) / 4 * 4) ⌝ }
     ensures { λ r. ⌜ r ≡ ranAnswer (runs.run (s .form) (designOf s (now (table .entry))) (now (w .entry)) (stepsIn (now (steps .entry)))) ⌝ }
     ensures { λ r. ⌜ now (w .exit) ≡ runs.run (s .form) (designOf s (now (table .entry))) (now (w .entry)) (stepsIn (now (steps .entry))) .words ⌝ }
 {
     let total = steps.len() / 4;
     let mut i = 0;
     while i < total {
-        let x = step_at(table, s, steps, i, w);
+        let x = step_at(table, s, ends, leasts, steps, i, w);
         if x != 0 {
             return answered(x, i, i);
         }
@@ -139,8 +174,16 @@ fn run_steps(table: &[u8], s: Sizes, steps: &[u8], w: &mut [u64]) -> Answer
 }
 
 // The step that record i names, or its refusal.
-fn step_at(table: &[u8], s: Sizes, steps: &[u8], i: usize, w: &mut [u64]) -> usize
-    requires { ⌜ (Suits s (now table)) × (Holds s 900000 (now w)) × (i < 4096) × (i * 4 + 3 < length (now steps)) ⌝ }
+fn step_at(
+    table: &[u8],
+    s: Sizes,
+    ends: &[u8],
+    leasts: &[u16],
+    steps: &[u8],
+    i: usize,
+    w: &mut [u64],
+) -> usize
+    requires { ⌜ (Suits s (now table)) × (Kept s (now table) (now ends) (now leasts)) × (Holds s 900000 (now w)) × (i < 4096) × (i * 4 + 3 < length (now steps)) ⌝ }
     ensures { λ x. ⌜ x ≡ stepFault (s .form) (designOf s (now (table .entry))) (now (w .entry)) (recordAt (now (steps .entry)) i) ⌝ }
     ensures { λ x. ⌜ now (w .exit) ≡ (stepped (s .form) (designOf s (now (table .entry))) (now (w .entry)) (recordAt (now (steps .entry)) i) if eqb (stepFault (s .form) (designOf s (now (table .entry))) (now (w .entry)) (recordAt (now (steps .entry)) i)) 0 else now (w .entry)) ⌝ }
 {
@@ -149,5 +192,5 @@ fn step_at(table: &[u8], s: Sizes, steps: &[u8], i: usize, w: &mut [u64]) -> usi
     let r = fault::byte_at(steps, at + 1);
     let m = fault::byte_at(steps, at + 2);
     let q = fault::byte_at(steps, at + 3);
-    step::step(table, s, w, p, r, m, q)
+    step::step(table, s, ends, leasts, w, p, r, m, q)
 }

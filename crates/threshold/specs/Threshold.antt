@@ -15,3 +15,8 @@ thresholdOf a b d n t = signedByte a *ℤ pos n +ℤ signedByte b *ℤ pos t +�
 -- the count is at least the threshold (outline, "One step", 3)
 abbrev pub metBy : ℕ → ℤ → Bool
 metBy count threshold = leZ threshold (pos count)
+
+-- the least count that meets it: itself, and 0 where it is negative
+unfoldable pub leastOf : ℤ → ℕ
+leastOf (pos k) = k
+leastOf (negsuc k) = 0

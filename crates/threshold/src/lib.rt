@@ -1,16 +1,16 @@
-// Thresholds: a·n + b·t + d, compared with a count. Signed numbers stay inside this crate.
+// Thresholds: a·n + b·t + d, as the least count that meets one. Signed numbers stay inside this crate.
 ghost use mathlib.Core.Path.{_≡_};
 ghost use Prim.Native.Nat.{_+_, _≤_, _<_};
 ghost use lib.IntN.{pos, _+ℤ_, _*ℤ_};
 ghost use lib.Signed.{mag};
-ghost use Rattle.threshold.specs.Threshold.{signedByte, thresholdOf, metBy};
+ghost use Rattle.threshold.specs.Threshold.{signedByte, thresholdOf, leastOf};
 
-// Is the count at least a·n + b·t + d? Exact from -16,384 to 16,256, the ends for n = 64 and t = 63.
-pub fn met(count: u64, a: u8, b: u8, d: u8, n: u64, t: u64) -> bool
-    requires { ⌜ (n ≤ 64) × (t ≤ 63) × (count < 4294967296) ⌝ }
-    ensures { λ r. ⌜ r ≡ metBy count (thresholdOf a b d n t) ⌝ }
+// The least count that meets a·n + b·t + d. Exact from -16,384 to 16,256, the ends for n = 64 and t = 63.
+pub fn least(a: u8, b: u8, d: u8, n: u64, t: u64) -> u16
+    requires { ⌜ (n ≤ 64) × (t ≤ 63) ⌝ }
+    ensures { λ r. ⌜ r ≡ leastOf (thresholdOf a b d n t) ⌝ }
 {
-    at_most(plus(plus(scaled(a, n), scaled(b, t)), signed(d)), count)
+    at_least_zero(plus(plus(scaled(a, n), scaled(b, t)), signed(d)))
 }
 
 // x·n for a coefficient x. Its bound is stated, so that a sum of such needs no law of products.
@@ -36,10 +36,10 @@ fn plus(y: i64, z: i64) -> i64
     y + z
 }
 
-// Is the threshold at most the count?
-fn at_most(threshold: i64, count: u64) -> bool
-    requires { ⌜ count < 4294967296 ⌝ }
-    ensures { λ r. ⌜ r ≡ metBy count threshold ⌝ }
+// A small number, or 0 in place of a negative one.
+fn at_least_zero(z: i64) -> u16
+    requires { ⌜ mag z ≤ 20000 ⌝ }
+    ensures { λ r. ⌜ r ≡ leastOf z ⌝ }
 {
-    threshold <= count as i64
+    if z < 0 { 0 } else { z as u16 }
 }

@@ -18,7 +18,7 @@ ghost use Rattle.agree.specs.Translation.{tagOf, tagBy, lowest, lowAll};
 ghost use Rattle.engine.specs.Design.{sizesOf, designOf, recordAt, roomOf};
 ghost use Rattle.engine.specs.Entry.{ranAnswer, ranWith};
 ghost use Rattle.engine.specs.Words.{silentBytes};
-ghost use Rattle.engine.specs.Facts.{Bounded, Suits, Holds, At};
+ghost use Rattle.engine.specs.Facts.{Bounded, Suits, EndsTo, Kept, Holds, At};
 ghost use Rattle.translate.specs.Written.{bytesOf, moved, translationWith};
 ghost use Rattle.translate.specs.Facts.{inMessageForm, lowestIn, RunsLow};
 ghost use Rattle.translate.specs.Entry.{wrote, translateAnswer, translateBytes};
@@ -41,17 +41,35 @@ pub fn translate<'a>(bundle: &'a [u8], standing: &'a [u8], out: &mut [u8]) -> An
     let table = bundle::table_in_use(bundle, standing);
     // The most that a configuration has: 64 states, 64 · 4 pairs of counts, 4 sent.
     let mut words = [0u64; 580];
-    translate_in(table, bundle, &mut words, &mut out[..need])
+    // The most that a table has: 64 rules.
+    let mut ends = [0u8; 256];
+    let mut leasts = [0u16; 256];
+    translate_in(
+        table,
+        bundle,
+        &mut ends,
+        &mut leasts,
+        &mut words,
+        &mut out[..need],
+    )
 }
 
 // The same for a bundle that was read, into as many bytes as it has. Its own form decides, before a byte is written.
-fn translate_in(table: &[u8], bundle: &[u8], words: &mut [u64], out: &mut [u8]) -> Answer
-    requires { ⌜ (Read (now table) (now bundle)) × (length (now words) ≡ 580) × (length (now out) ≡ length (now bundle)) ⌝ }
+fn translate_in(
+    table: &[u8],
+    bundle: &[u8],
+    ends: &mut [u8],
+    leasts: &mut [u16],
+    words: &mut [u64],
+    out: &mut [u8],
+) -> Answer
+    requires { ⌜ (Read (now table) (now bundle)) × (length (now ends) ≡ 256) × (length (now leasts) ≡ 256) × (length (now words) ≡ 580) × (length (now out) ≡ length (now bundle)) ⌝ }
     ensures { λ r. ⌜ r ≡ wrote (length (now (bundle .entry))) (ranWith (now (table .entry)) (now (bundle .entry))) ⌝ }
     ensures { λ r. ⌜ now (out .exit) ≡ (translationWith (now (table .entry)) (now (bundle .entry)) if eqb (ranWith (now (table .entry)) (now (bundle .entry)) .refusal) 0 else now (out .entry)) ⌝ }
 {
     let s = engine::sizes_of(table, bundle);
-    let a = run_own(table, bundle, s, words);
+    engine::rules::keep(table, s, ends, leasts);
+    let a = run_own(table, bundle, s, ends, leasts, words);
     if a.refusal != 0 {
         return Answer {
             refusal: a.refusal,
@@ -59,29 +77,36 @@ fn translate_in(table: &[u8], bundle: &[u8], words: &mut [u64], out: &mut [u8]) 
             count: 0,
         };
     }
-    write(table, bundle, s, words, out);
+    write(table, bundle, s, ends, words, out);
     engine::answered(0, 0, bundle.len())
 }
 
 // The bundle's run in its own form.
-fn run_own(table: &[u8], bundle: &[u8], s: Sizes, words: &mut [u64]) -> Answer
-    requires { ⌜ (Read (now table) (now bundle)) × (s ≡ sizesOf (now table) (now bundle)) × (length (now words) ≡ 580) ⌝ }
+fn run_own(
+    table: &[u8],
+    bundle: &[u8],
+    s: Sizes,
+    ends: &[u8],
+    leasts: &[u16],
+    words: &mut [u64],
+) -> Answer
+    requires { ⌜ (Read (now table) (now bundle)) × (s ≡ sizesOf (now table) (now bundle)) × (Kept s (now table) (now ends) (now leasts)) × (length (now words) ≡ 580) ⌝ }
     ensures { λ r. ⌜ r ≡ ranAnswer (ranWith (now (table .entry)) (now (bundle .entry))) ⌝ }
     ensures { λ r. ⌜ length (now (words .exit)) ≡ 580 ⌝ }
 {
     let need = engine::words::room(s);
-    engine::run_in(table, bundle, s, &mut words[..need])
+    engine::run_in(table, bundle, s, ends, leasts, &mut words[..need])
 }
 
 // The bundle that runs, with its steps in the other form, and the other form's number as its last byte.
-fn write(table: &[u8], bundle: &[u8], s: Sizes, words: &mut [u64], out: &mut [u8])
-    requires { ⌜ (Read (now table) (now bundle)) × (s ≡ sizesOf (now table) (now bundle)) × (length (now words) ≡ 580) × (length (now out) ≡ length (now bundle)) × (ranWith (now table) (now bundle) .refusal ≡ 0) ⌝ }
+fn write(table: &[u8], bundle: &[u8], s: Sizes, ends: &[u8], words: &mut [u64], out: &mut [u8])
+    requires { ⌜ (Read (now table) (now bundle)) × (s ≡ sizesOf (now table) (now bundle)) × (EndsTo (s .types) (now table) (now ends) (s .rules)) × (length (now words) ≡ 580) × (length (now out) ≡ length (now bundle)) × (ranWith (now table) (now bundle) .refusal ≡ 0) ⌝ }
     ensures { λ r. ⌜ now (out .exit) ≡ translationWith (now (table .entry)) (now (bundle .entry)) ⌝ }
 {
     copy(bundle, out);
     let at = bundle::steps_at(bundle);
     let end = bundle.len() - 8;
-    write_steps(table, bundle, s, words, &mut out[at..end]);
+    write_steps(table, bundle, s, ends, words, &mut out[at..end]);
     let last = bundle.len() - 1;
     out[last] = other(s.form);
 }
@@ -108,15 +133,22 @@ fn other(form: usize) -> u8
 }
 
 // The bundle's steps in the other form, in place of its own.
-fn write_steps(table: &[u8], bundle: &[u8], s: Sizes, words: &mut [u64], steps: &mut [u8])
-    requires { ⌜ (Read (now table) (now bundle)) × (s ≡ sizesOf (now table) (now bundle)) × (length (now words) ≡ 580) × (now steps ≡ stepsOf (now bundle)) × (ranWith (now table) (now bundle) .refusal ≡ 0) ⌝ }
+fn write_steps(
+    table: &[u8],
+    bundle: &[u8],
+    s: Sizes,
+    ends: &[u8],
+    words: &mut [u64],
+    steps: &mut [u8],
+)
+    requires { ⌜ (Read (now table) (now bundle)) × (s ≡ sizesOf (now table) (now bundle)) × (EndsTo (s .types) (now table) (now ends) (s .rules)) × (length (now words) ≡ 580) × (now steps ≡ stepsOf (now bundle)) × (ranWith (now table) (now bundle) .refusal ≡ 0) ⌝ }
     ensures { λ r. ⌜ now (steps .exit) ≡ bytesOf (moved (s .form) (designOf s (now (table .entry))) (start (s .types) (forms.wide 0) (startsOf (now (bundle .entry)))) (stepsIn (now (steps .entry)))) ⌝ }
 {
     if s.form == 0 {
         write_tags(s.correct, steps);
         return;
     }
-    write_senders(table, bundle, message_form(s), words, steps);
+    write_senders(table, bundle, message_form(s), ends, words, steps);
 }
 
 // ---- into counting form
@@ -173,39 +205,53 @@ fn message_form(s: Sizes) -> Sizes
 }
 
 // Each tag becomes the lowest sender of its class that is in transit, along the run in message form from the bundle's starts.
-fn write_senders(table: &[u8], bundle: &[u8], s: Sizes, words: &mut [u64], steps: &mut [u8])
-    requires { ⌜ (Read (now table) (now bundle)) × (s ≡ inMessageForm (sizesOf (now table) (now bundle))) × (length (now words) ≡ 580) × (now steps ≡ stepsOf (now bundle)) × (RunsLow s (now table) (start (s .types) (forms.wide 0) (startsOf (now bundle))) (now steps)) ⌝ }
+fn write_senders(
+    table: &[u8],
+    bundle: &[u8],
+    s: Sizes,
+    ends: &[u8],
+    words: &mut [u64],
+    steps: &mut [u8],
+)
+    requires { ⌜ (Read (now table) (now bundle)) × (s ≡ inMessageForm (sizesOf (now table) (now bundle))) × (EndsTo (s .types) (now table) (now ends) (s .rules)) × (length (now words) ≡ 580) × (now steps ≡ stepsOf (now bundle)) × (RunsLow s (now table) (start (s .types) (forms.wide 0) (startsOf (now bundle))) (now steps)) ⌝ }
     ensures { λ r. ⌜ now (steps .exit) ≡ bytesOf (lowAll (designOf s (now (table .entry))) (start (s .types) (forms.wide 0) (startsOf (now (bundle .entry)))) (stepsIn (now (steps .entry)))) ⌝ }
 {
     let need = engine::words::room(s);
-    write_from_start(table, bundle, s, &mut words[..need], steps);
+    write_from_start(table, bundle, s, ends, &mut words[..need], steps);
 }
 
 // The same, in words of the right number.
-fn write_from_start(table: &[u8], bundle: &[u8], s: Sizes, w: &mut [u64], steps: &mut [u8])
-    requires { ⌜ (Read (now table) (now bundle)) × (s ≡ inMessageForm (sizesOf (now table) (now bundle))) × (length (now w) ≡ roomOf s) × (now steps ≡ stepsOf (now bundle)) × (RunsLow s (now table) (start (s .types) (forms.wide 0) (startsOf (now bundle))) (now steps)) ⌝ }
+fn write_from_start(
+    table: &[u8],
+    bundle: &[u8],
+    s: Sizes,
+    ends: &[u8],
+    w: &mut [u64],
+    steps: &mut [u8],
+)
+    requires { ⌜ (Read (now table) (now bundle)) × (s ≡ inMessageForm (sizesOf (now table) (now bundle))) × (EndsTo (s .types) (now table) (now ends) (s .rules)) × (length (now w) ≡ roomOf s) × (now steps ≡ stepsOf (now bundle)) × (RunsLow s (now table) (start (s .types) (forms.wide 0) (startsOf (now bundle))) (now steps)) ⌝ }
     ensures { λ r. ⌜ now (steps .exit) ≡ bytesOf (lowAll (designOf s (now (table .entry))) (start (s .types) (forms.wide 0) (startsOf (now (bundle .entry)))) (stepsIn (now (steps .entry)))) ⌝ }
 {
     engine::begin(bundle::starts(bundle), s, w);
-    write_along(table, s, w, steps);
+    write_along(table, s, ends, w, steps);
 }
 
 // The same, along the run from the words.
-fn write_along(table: &[u8], s: Sizes, w: &mut [u64], steps: &mut [u8])
-    requires { ⌜ (Suits s (now table)) × (s .form ≡ 0) × (Holds s 16 (now w)) × (length (now steps) ≤ 16384) × (length (now steps) ≡ length (now steps) / 4 * 4) × (RunsLow s (now table) (now w) (now steps)) ⌝ }
+fn write_along(table: &[u8], s: Sizes, ends: &[u8], w: &mut [u64], steps: &mut [u8])
+    requires { ⌜ (Suits s (now table)) × (EndsTo (s .types) (now table) (now ends) (s .rules)) × (s .form ≡ 0) × (Holds s 16 (now w)) × (length (now steps) ≤ 16384) × (length (now steps) ≡ length (now steps) / 4 * 4) × (RunsLow s (now table) (now w) (now steps)) ⌝ }
     ensures { λ r. ⌜ now (steps .exit) ≡ bytesOf (lowAll (designOf s (now (table .entry))) (now (w .entry)) (stepsIn (now (steps .entry)))) ⌝ }
 {
     let total = steps.len() / 4;
     let mut i = 0;
     while i < total {
-        sender_at(table, s, w, steps, i);
+        sender_at(table, s, ends, w, steps, i);
         i += 1;
     }
 }
 
 // The tag of record i becomes its sender, and the step is taken.
-fn sender_at(table: &[u8], s: Sizes, w: &mut [u64], steps: &mut [u8], i: usize)
-    requires { ⌜ (Suits s (now table)) × (s .form ≡ 0) × (Holds s 900000 (now w)) × (i < 4096) × (i * 4 + 3 < length (now steps)) × (stepFault 0 (designOf s (now table)) (now w) (lowest (designOf s (now table)) (now w) (recordAt (now steps) i)) ≡ 0) ⌝ }
+fn sender_at(table: &[u8], s: Sizes, ends: &[u8], w: &mut [u64], steps: &mut [u8], i: usize)
+    requires { ⌜ (Suits s (now table)) × (EndsTo (s .types) (now table) (now ends) (s .rules)) × (s .form ≡ 0) × (Holds s 900000 (now w)) × (i < 4096) × (i * 4 + 3 < length (now steps)) × (stepFault 0 (designOf s (now table)) (now w) (lowest (designOf s (now table)) (now w) (recordAt (now steps) i)) ≡ 0) ⌝ }
     ensures { λ r. ⌜ now (w .exit) ≡ stepped 0 (designOf s (now (table .entry))) (now (w .entry)) (lowest (designOf s (now (table .entry))) (now (w .entry)) (recordAt (now (steps .entry)) i)) ⌝ }
     ensures { λ r. ⌜ now (steps .exit) ≡ set (now (steps .entry)) (i * 4 + 3) (lowest (designOf s (now (table .entry))) (now (w .entry)) (recordAt (now (steps .entry)) i) .source) ⌝ }
 {
@@ -215,7 +261,7 @@ fn sender_at(table: &[u8], s: Sizes, w: &mut [u64], steps: &mut [u8], i: usize)
     let m = fault::byte_at(steps, at + 2);
     let tag = fault::byte_at(steps, at + 3);
     let q = sender(s, w, p, m, tag);
-    engine::step::apply_step(table, s, w, p, r, m, q);
+    engine::step::apply_step(table, s, ends, w, p, r, m, q);
     steps[at + 3] = q as u8;
 }
 

@@ -1,4 +1,4 @@
-use mathlib.Core.Path.{sym, _∙_}
+use mathlib.Core.Path.{refl, sym, _∙_}
 use borrow.Author.Needs.{needs}
 use lib.Seq.{length-take-le}
 use Rattle.bundle.proofs.BundleLaws.{read-by}
@@ -23,9 +23,11 @@ run-spec =
     (λ c. let a = c .before .before .before .before .before .before .before .before .before .before .before .args in
     let a = enter-short (a .bundle .now) (a .standing .now) (a .lent .now) (c .before .before .before .before .before .before .before .read-fault .ensures) (c .before .before .before .before .before .if1 .left) (c .before .before .before .before .table-in-use .ensures) (c .before .before .before .sizes-of .ensures) (c .before .before .room .ensures .0) (c .before .if2 .taken) (c .answered2 .ensures) in (a .answer, a .words))
     (λ c. search needs)
-    (λ c. sym (length-take-le _ _ (c .before .if2 .left)))
-    (λ c κs. let a = c .before .before .before .before .before .before .before .before .before .before .before .args in
-    (enter-read (a .bundle .now) (a .standing .now) (a .lent .now) (c .before .before .before .before .before .before .before .read-fault .ensures) (c .before .before .before .before .before .if1 .left) (c .before .before .before .before .table-in-use .ensures) (c .before .before .before .sizes-of .ensures) (c .before .before .room .ensures .0), c .before .before .before .sizes-of .ensures, length-take-le _ _ (c .before .if2 .left) ∙ c .before .before .room .ensures .0))
     (λ c. search needs)
-    (λ c. let a = c .before .before .before .before .before .before .before .before .before .before .before .before .before .before .args in
-    let a = enter-run (a .bundle .now) (a .standing .now) (a .lent .now) (c .before .before .before .before .before .before .before .before .before .before .read-fault .ensures) (c .before .before .before .before .before .before .before .before .if1 .left) (c .before .before .before .before .before .before .before .table-in-use .ensures) (c .before .before .before .before .before .before .sizes-of .ensures) (c .before .before .before .before .before .room .ensures .0) (c .before .before .before .before .if2 .left) (c .before .before .run-in .ensures .0) (c .before .before .run-in .ensures .1) in (a .answer, a .words)))
+    (λ c. search needs)
+    (λ c. sym (length-take-le _ _ (c .before .before .before .if2 .left)))
+    (λ c κs. let a = c .before .before .before .before .before .before .before .before .before .before .before .before .before .args in
+    (enter-read (a .bundle .now) (a .standing .now) (a .lent .now) (c .before .before .before .before .before .before .before .before .before .read-fault .ensures) (c .before .before .before .before .before .before .before .if1 .left) (c .before .before .before .before .before .before .table-in-use .ensures) (c .before .before .before .before .before .sizes-of .ensures) (c .before .before .before .before .room .ensures .0), c .before .before .before .before .before .sizes-of .ensures, refl, refl, length-take-le _ _ (c .before .before .before .if2 .left) ∙ c .before .before .before .before .room .ensures .0))
+    (λ c. search needs)
+    (λ c. let a = c .before .before .before .before .before .before .before .before .before .before .before .before .before .before .before .before .before .before .args in
+    let a = enter-run (a .bundle .now) (a .standing .now) (a .lent .now) (c .before .before .before .before .before .before .before .before .before .before .before .before .before .before .read-fault .ensures) (c .before .before .before .before .before .before .before .before .before .before .before .before .if1 .left) (c .before .before .before .before .before .before .before .before .before .before .before .table-in-use .ensures) (c .before .before .before .before .before .before .before .before .before .before .sizes-of .ensures) (c .before .before .before .before .before .before .before .before .before .room .ensures .0) (c .before .before .before .before .before .before .before .before .if2 .left) (c .before .before .before .before .run-kept .ensures .0) (c .before .before .before .before .run-kept .ensures .1) in (a .answer, a .words)))

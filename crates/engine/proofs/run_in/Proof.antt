@@ -11,14 +11,14 @@ run-in-spec =
     tie.close
     (tie.spec
     (λ c κs. search needs)
-    (λ c κs. let st = c .before .before .before .before .before in
+    (λ c κs. let st = c .before .before .before .before .before .before .before in
     let a = st .args in
-    (starts-long (a .table .now) (a .bundle .now) (st .pre .0) (st .pre .1) (c .before .starts .ensures), st .pre .2))
+    (starts-long (a .table .now) (a .bundle .now) (st .pre .0) (st .pre .1) (c .before .starts .ensures), st .pre .3))
     (λ c κs. search needs)
-    (λ c κs. let st = c .before .before .before .before .before .before .before .before .before .before in
+    (λ c κs. let st = c .before .before .before .before .before .before .before .before .before .before .before .before in
     let a = st .args in
-    let f = steps-few (a .table .now) (a .bundle .now) (st .pre .0) (c .before .steps .ensures) in (suits (a .table .now) (a .bundle .now) (st .pre .0) (st .pre .1), start-holds (a .table .now) (a .bundle .now) (st .pre .0) (st .pre .1) (c .before .before .before .before .before .before .starts .ensures) (c .before .before .before .before .begin .ensures), f .0, f .1))
+    let f = steps-few (a .table .now) (a .bundle .now) (st .pre .0) (c .before .steps .ensures) in (suits (a .table .now) (a .bundle .now) (st .pre .0) (st .pre .1), st .pre .2, start-holds (a .table .now) (a .bundle .now) (st .pre .0) (st .pre .1) (c .before .before .before .before .before .before .starts .ensures) (c .before .before .before .before .begin .ensures), f .0, f .1))
     (λ c. search needs)
-    (λ c. let st = c .before .before .before .before .before .before .before .before .before .before .before .before .before in
+    (λ c. let st = c .before .before .before .before .before .before .before .before .before .before .before .before .before .before .before in
     let a = st .args in
     (c .before .before .run-steps .ensures .0 ∙ ap ranAnswer (same-run (a .table .now) (a .bundle .now) (st .pre .1) (c .before .before .before .before .before .before .before .before .before .starts .ensures) (c .before .before .before .before .before .before .before .begin .ensures) (c .before .before .before .before .steps .ensures)), c .before .before .run-steps .ensures .1 ∙ ap (λ (r : Ran). r .words) (same-run (a .table .now) (a .bundle .now) (st .pre .1) (c .before .before .before .before .before .before .before .before .before .starts .ensures) (c .before .before .before .before .before .before .before .begin .ensures) (c .before .before .before .before .steps .ensures)))))

@@ -10,11 +10,11 @@ pub run-own-spec : {M : Type 1} → statement M
 run-own-spec =
     tie.close
     (tie.spec
-    (λ c κs. let st = c .before .before .before in
+    (λ c κs. let st = c .before .before .before .before .before in
     let a = st .args in
     suits (a .table .now) (a .bundle .now) (st .pre .0) (st .pre .1) .bounded)
     (λ c. search needs)
-    (λ c. sym (length-take-le _ _ (omega (arith, c .before .before .before .before .before .pre .2, c .before .room .ensures .1))))
-    (λ c κs. (c .before .before .before .before .before .pre .0, c .before .before .before .before .before .pre .1, length-take-le _ _ (omega (arith, c .before .before .before .before .before .pre .2, c .before .room .ensures .1)) ∙ c .before .room .ensures .0))
+    (λ c. sym (length-take-le _ _ (omega (arith, c .before .before .before .before .before .before .before .pre .3, c .before .room .ensures .1))))
+    (λ c κs. (c .before .before .before .before .before .before .before .pre .0, c .before .before .before .before .before .before .before .pre .1, c .before .before .before .before .before .before .before .pre .2, length-take-le _ _ (omega (arith, c .before .before .before .before .before .before .before .pre .3, c .before .room .ensures .1)) ∙ c .before .room .ensures .0))
     (λ c. search needs)
     (λ c. search needs))

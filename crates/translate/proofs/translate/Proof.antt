@@ -22,9 +22,11 @@ translate-spec =
     (λ c κs. search needs)
     (λ c. search needs)
     (λ c. search needs)
-    (λ c. sym (length-take-le _ _ (c .before .before .before .if2 .left)))
-    (λ c κs. let a = c .before .before .before .before .before .before .before .before .before .before .args in
-    (read-by (a .bundle .now) (a .standing .now) (c .before .before .before .before .before .before .read-fault .ensures) (c .before .before .before .before .if1 .left) (c .before .before .table-in-use .ensures), refl, length-take-le _ _ (c .before .before .before .if2 .left)))
     (λ c. search needs)
-    (λ c. let a = c .before .before .before .before .before .before .before .before .before .before .before .before .before .before .args in
-    let E = enter-long (a .bundle .now) (a .standing .now) (a .out .now) (c .before .before .before .before .before .before .before .before .before .before .read-fault .ensures) (c .before .before .before .before .before .before .before .before .if1 .left) (c .before .before .before .before .before .before .before .if2 .left) (c .before .before .before .before .before .before .table-in-use .ensures) (record { answer = c .before .before .before .translate-in .ensures .0; bytes = c .before .before .before .translate-in .ensures .1 }) (take-append-drop (length (a .bundle .now)) (a .out .now)) in (E .answer, E .bytes)))
+    (λ c. search needs)
+    (λ c. sym (length-take-le _ _ (c .before .before .before .before .before .if2 .left)))
+    (λ c κs. let a = c .before .before .before .before .before .before .before .before .before .before .before .before .args in
+    (read-by (a .bundle .now) (a .standing .now) (c .before .before .before .before .before .before .before .before .read-fault .ensures) (c .before .before .before .before .before .before .if1 .left) (c .before .before .before .before .table-in-use .ensures), refl, refl, refl, length-take-le _ _ (c .before .before .before .before .before .if2 .left)))
+    (λ c. search needs)
+    (λ c. let a = c .before .before .before .before .before .before .before .before .before .before .before .before .before .before .before .before .before .before .args in
+    let E = enter-long (a .bundle .now) (a .standing .now) (a .out .now) (c .before .before .before .before .before .before .before .before .before .before .before .before .before .before .read-fault .ensures) (c .before .before .before .before .before .before .before .before .before .before .before .before .if1 .left) (c .before .before .before .before .before .before .before .before .before .before .before .if2 .left) (c .before .before .before .before .before .before .before .before .before .before .table-in-use .ensures) (record { answer = c .before .before .before .before .before .translate-in .ensures .0; bytes = c .before .before .before .before .before .translate-in .ensures .1 }) (take-append-drop (length (a .bundle .now)) (a .out .now)) in (E .answer, E .bytes)))

@@ -17,15 +17,15 @@ write-from-start-spec =
     tie.close
     (tie.spec
     (λ c κs. search needs)
-    (λ c κs. let st = c .before .before .before .before .before .before in
-    (low-starts (st .args .table .now) (st .args .bundle .now) (st .pre .0) (st .pre .1) (c .before .starts .ensures), st .pre .2))
-    (λ c κs. let st = c .before .before .before .before .before .before .before .before .before .before .before in
+    (λ c κs. let st = c .before .before .before .before .before .before .before in
+    (low-starts (st .args .table .now) (st .args .bundle .now) (st .pre .0) (st .pre .1) (c .before .starts .ensures), st .pre .3))
+    (λ c κs. let st = c .before .before .before .before .before .before .before .before .before .before .before .before in
     let a = st .args in
-    let f = steps-few (a .table .now) (a .bundle .now) (st .pre .0) (st .pre .3) in
+    let f = steps-few (a .table .now) (a .bundle .now) (st .pre .0) (st .pre .4) in
     let w = low-start (a .table .now) (a .bundle .now) (st .pre .0) (st .pre .1) (c .before .before .before .before .before .before .starts .ensures) (c .before .before .before .before .begin .ensures) in
-    (low-suits (a .table .now) (a .bundle .now) (st .pre .0) (st .pre .1), low-form (a .table .now) (a .bundle .now) (st .pre .0) (st .pre .1), low-holds (a .table .now) (a .bundle .now) (st .pre .0) (st .pre .1) (c .before .before .before .before .before .before .starts .ensures) (c .before .before .before .before .begin .ensures), f .0, f .1, subst⁻¹ (λ (v : List ℕ). RunsLow (a .s) (a .table .now) v (a .steps .now)) w (st .pre .4)))
+    (low-suits (a .table .now) (a .bundle .now) (st .pre .0) (st .pre .1), st .pre .2, low-form (a .table .now) (a .bundle .now) (st .pre .0) (st .pre .1), low-holds (a .table .now) (a .bundle .now) (st .pre .0) (st .pre .1) (c .before .before .before .before .before .before .starts .ensures) (c .before .before .before .before .begin .ensures), f .0, f .1, subst⁻¹ (λ (v : List ℕ). RunsLow (a .s) (a .table .now) v (a .steps .now)) w (st .pre .5)))
     (λ c. search needs)
     (λ c. search needs)
-    (λ c. let st = c .before .before .before .before .before .before .before .before .before .before .before .before .before .before .before .before in
+    (λ c. let st = c .before .before .before .before .before .before .before .before .before .before .before .before .before .before .before .before .before in
     let a = st .args in
     c .before .before .before .before .write-along .ensures ∙ ap (λ (v : List ℕ). bytesOf (lowAll (designOf (a .s) (a .table .now)) v (stepsIn (a .steps .now)))) (low-start (a .table .now) (a .bundle .now) (st .pre .0) (st .pre .1) (c .before .before .before .before .before .before .before .before .before .before .before .starts .ensures) (c .before .before .before .before .before .before .before .before .before .begin .ensures))))

@@ -10,12 +10,12 @@ pub write-senders-spec : {M : Type 1} → statement M
 write-senders-spec =
     tie.close
     (tie.spec
-    (λ c κs. let st = c .before .before .before .before in
+    (λ c κs. let st = c .before .before .before .before .before in
     low-suits (st .args .table .now) (st .args .bundle .now) (st .pre .0) (st .pre .1) .bounded)
     (λ c. search needs)
-    (λ c. sym (length-take-le _ _ (omega (arith, c .before .before .before .before .before .before .pre .2, c .before .room .ensures .1))))
-    (λ c κs. let st = c .before .before .before .before .before .before .before in
-    (st .pre .0, st .pre .1, length-take-le _ _ (omega (arith, st .pre .2, c .before .before .room .ensures .1)) ∙ c .before .before .room .ensures .0, st .pre .3, st .pre .4))
+    (λ c. sym (length-take-le _ _ (omega (arith, c .before .before .before .before .before .before .before .pre .3, c .before .room .ensures .1))))
+    (λ c κs. let st = c .before .before .before .before .before .before .before .before in
+    (st .pre .0, st .pre .1, st .pre .2, length-take-le _ _ (omega (arith, st .pre .3, c .before .before .room .ensures .1)) ∙ c .before .before .room .ensures .0, st .pre .4, st .pre .5))
     (λ c. search needs)
     (λ c. search needs)
     (λ c. search needs))

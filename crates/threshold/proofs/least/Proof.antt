@@ -4,8 +4,8 @@ use native.Mathlib.Omega.{arith}
 use lib.Signed.{mag}
 use Rattle.threshold.specs.Threshold.{thresholdOf}
 use Rattle.threshold.proofs.SizeLaws.{back}
-use Rattle.threshold.proofs.met.Statement.{statement}
-use Rattle.threshold.proofs.met.Tie as tie
+use Rattle.threshold.proofs.least.Statement.{statement}
+use Rattle.threshold.proofs.least.Tie as tie
 
 scaled-requires : tie.Need-scaled-requires
 scaled-requires c κs = search needs
@@ -26,8 +26,14 @@ plus-requires-2 c κs =
     rw (back (c .before .plus .result) (c .before .plus .ok), back (c .signed .result) (c .signed .ok))
     (omega (arith, ap mag (back (x .result) (x .ok)), ap mag (back (y .result) (y .ok))))
 
-at-most-requires : tie.Need-at-most-requires
-at-most-requires c κs = search needs
+at-least-zero-requires : tie.Need-at-least-zero-requires
+at-least-zero-requires c κs =
+    let x = c .before .before .before .before .scaled in
+    let y = c .before .before .before .scaled2 in
+    let p = c .before .before .plus in
+    let d = c .before .signed in
+    rw (back (c .plus2 .result) (c .plus2 .ok))
+    (omega (arith, ap mag (back (x .result) (x .ok)), ap mag (back (y .result) (y .ok)), ap mag (back (p .result) (p .ok)), ap mag (back (d .result) (d .ok))))
 
 returns : tie.Need-returns
 unfolding thresholdOf
@@ -37,8 +43,8 @@ returns c =
     let p = c .before .before .before .plus in
     let d = c .before .before .signed in
     let s = c .before .plus2 in
-    c .at-most .ensures
+    c .at-least-zero .ensures
     ∙ rw (back (s .result) (s .ok), s .ensures .0, back (p .result) (p .ok), p .ensures .0, back (x .result) (x .ok), back (y .result) (y .ok), back (d .result) (d .ok), x .ensures .0, y .ensures .0, d .ensures .0)
 
-pub met-spec : {M : Type 1} → statement M
-met-spec = tie.close (tie.spec scaled-requires scaled-requires-2 plus-requires signed-requires plus-requires-2 at-most-requires returns)
+pub least-spec : {M : Type 1} → statement M
+least-spec = tie.close (tie.spec scaled-requires scaled-requires-2 plus-requires signed-requires plus-requires-2 at-least-zero-requires returns)

@@ -1,0 +1,14 @@
+use mir.Facts.{toZ-ofZ}
+use Rattle.threshold.proofs.LeastLaws.{least-negative, least-natural, least-same}
+use Rattle.threshold.proofs.at_least_zero.Statement.{statement}
+use Rattle.threshold.proofs.at_least_zero.Tie as tie
+
+pub at-least-zero-spec : {M : Type 1} → statement M
+at-least-zero-spec =
+    tie.close
+    (tie.spec
+    (λ c. let e = toZ-ofZ (c .before .fits .z) in
+    rw e (least-natural (c .before .args .z) (rw e at (c .if1 .left)) (c .before .pre)))
+    (λ c. least-negative (c .before .args .z) (rw (toZ-ofZ (c .before .fits .z)) at (c .if1 .taken)))
+    (λ c. let e = toZ-ofZ (c .before .fits .z) in
+    rw e (least-same (c .before .args .z) (rw e at (c .if1 .left)))))
