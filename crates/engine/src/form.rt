@@ -56,7 +56,7 @@ pub fn card(form: usize, c: usize, f: usize, v: u64, w: u64) -> u64
 
 // Is a message from q in transit, by the two words of the receiver's cell and the sent word?
 pub fn in_transit(form: usize, c: usize, f: usize, q: usize, v: u64, w: u64, out: u64) -> bool
-    requires { ⌜ (q < 64) × (f ≤ 64) ⌝ }
+    requires { ⌜ (q < 64) × (c + f ≤ 64) ⌝ }
     ensures { λ r. ⌜ r ≡ column form c f .inTransit q (coll form c f (two v w)) (shown form c f out) ⌝ }
 {
     if form == 0 {
@@ -67,11 +67,10 @@ pub fn in_transit(form: usize, c: usize, f: usize, q: usize, v: u64, w: u64, out
 }
 
 fn set_in_transit(c: usize, f: usize, q: usize, got: u64, out: u64) -> bool
-    requires { ⌜ q < 64 ⌝ }
+    requires { ⌜ (q < 64) × (c ≤ 64) ⌝ }
     ensures { λ r. ⌜ r ≡ passing c f .inTransit q got out ⌝ }
 {
-    let has = senders::has(got, q as u64);
-    ((q < c) & (senders::has(out, q as u64) & !has)) | ((c <= q) & !has)
+    senders::in_transit(out, got, c as u64, q as u64)
 }
 
 fn count_in_transit(c: usize, f: usize, q: usize, v: u64, w: u64, out: u64) -> bool

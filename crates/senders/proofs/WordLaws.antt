@@ -1,6 +1,6 @@
 -- The machine's operations on a word, as sets: `&`, `!`, the count of ones under a mask, and trailing zeros.
 use mathlib.Core.Path.{_≡_, refl, sym, ap, ap₂, _∙_}
-use mathlib.Core.Bool.{Bool, not, _&&_, and-assoc}
+use mathlib.Core.Bool.{Bool, true, false, not, _&&_, _||_, and-assoc, or-false}
 use Prim.Native.Nat.{ℕ, zero, suc, _+_, _-_, _*_, _/_, _%_, _^_, _≤_, _<_}
 use native.Mathlib.Nat.{mod-lt, mod-one, mod-eq-of-lt, one-mul, add-comm, add-zero, le-of-suc-le-suc, lt-of-le-of-lt, not-suc-le-zero, pow-suc, sub-zero}
 use native.Mathlib.Numerals.{add-one}
@@ -75,6 +75,21 @@ mem-first c s o q = ap (λ (b : Bool). b && not (mem o q)) (mem-and (2 ^ c - 1) 
 pub mem-rest : (c o q : ℕ) → c ≤ 64 → q < 64 → missing ((2 ^ 64 - 1) - (2 ^ c - 1)) o q ≡ (leb c q && not (mem o q))
 mem-rest c o q h l =
     ap (λ (b : Bool). b && not (mem o q)) (mem-not 64 (2 ^ c - 1) q (omega (arith, pow-pos c, pow-mono {i = c} {j = 64} h)) l ∙ ap not (mem-mask c q) ∙ not-ltb q c)
+
+-- `!(first & !sent) & !got`: who has sent or is not among the first, and was not received
+on-way : (a b g : Bool) → (not (a && not b) && g) ≡ (a && (b && g) || not a && g)
+on-way true true g = sym (or-false g)
+on-way true false g = refl
+on-way false b g = refl
+
+pub mem-transit : {m : ℕ} (c s o q : ℕ) → m ≡ 2 ^ c - 1 → c ≤ 64 → s < 2 ^ 64 → o < 2 ^ 64 → q < 64
+    → mem (bitAnd ((2 ^ 64 - 1) - bitAnd m ((2 ^ 64 - 1) - s)) ((2 ^ 64 - 1) - o)) q ≡ (ltb q c && missing s o q || leb c q && not (mem o q))
+mem-transit c s o q e k h i l =
+    let below : bitAnd (2 ^ c - 1) ((2 ^ 64 - 1) - s) < 2 ^ 64 = lt-of-le-of-lt (and-le-l (2 ^ c - 1) ((2 ^ 64 - 1) - s)) (omega (arith, pow-pos c, pow-mono {i = c} {j = 64} k)) in
+    rw e
+    (mem-missing _ o q i l
+    ∙ ap (λ (b : Bool). b && not (mem o q)) (mem-not 64 _ q below l ∙ ap not (mem-missing (2 ^ c - 1) s q h l ∙ ap (λ (b : Bool). b && not (mem s q)) (mem-mask c q)))
+    ∙ on-way (ltb q c) (mem s q) (not (mem o q)) ∙ ap (λ (b : Bool). ltb q c && missing s o q || b && not (mem o q)) (not-ltb q c))
 
 -- ---- counts of ones
 ones-digit : (x : ℕ) → x < 2 → ones x ≡ digit (eqb x 1)

@@ -1,6 +1,6 @@
 // A set of up to 64 senders is a u64: bit q for sender q.
 ghost use mathlib.Core.Path.{_≡_};
-ghost use mathlib.Core.Bool.{not, _&&_};
+ghost use mathlib.Core.Bool.{not, _&&_, _||_};
 ghost use Prim.Native.Nat.{_+_, _-_, _^_, _≤_, _<_};
 ghost use lib.Dec.{ltb, leb};
 ghost use Rattle.senders.specs.Tally.{count, least};
@@ -12,6 +12,14 @@ pub fn has(set: u64, q: u64) -> bool
     ensures { λ r. ⌜ r ≡ mem set q ⌝ }
 {
     (set >> q) % 2 == 1
+}
+
+// Is q's message on its way: has q sent, or is it a faulty sender, one from c on, and is q missing from the set that was received?
+pub fn in_transit(sent: u64, got: u64, c: u64, q: u64) -> bool
+    requires { ⌜ (c ≤ 64) × (q < 64) ⌝ }
+    ensures { λ r. ⌜ r ≡ (ltb q c && missing sent got q || leb c q && not (mem got q)) ⌝ }
+{
+    has(!(first(c) & !sent) & !got, q)
 }
 
 // The set with q in it: a sender that is there already is not counted twice.
