@@ -24,7 +24,7 @@ pub fn to(table: &[u8], s: Sizes, ends: &[u8], r: usize) -> usize
     fault::byte_at(ends, r * 4 + 1)
 }
 
-// The type that it sends, or as many as there are.
+// The type that it sends; as many as there are types where it sends none.
 pub fn sends(table: &[u8], s: Sizes, ends: &[u8], r: usize) -> usize
     requires { ⌜ (Suits s (now table)) × (EndsTo (s .types) (now table) (now ends) (s .rules)) × (r < s .rules) ⌝ }
     ensures { λ x. ⌜ x ≡ sendsOf (s .types) (now (table .entry)) r ⌝ }
@@ -41,6 +41,7 @@ pub fn least(table: &[u8], s: Sizes, leasts: &[u16], r: usize, m: usize) -> u64
     wide(leasts[at])
 }
 
+// A kept number, as counts are.
 fn wide(x: u16) -> u64
     ensures { λ r. ⌜ (r ≡ x) × (r < 65536) ⌝ }
 {
@@ -48,7 +49,7 @@ fn wide(x: u16) -> u64
 }
 
 // ---- reading them
-// All rules of the table.
+// Keeps all rules of the table.
 pub fn keep(table: &[u8], s: Sizes, ends: &mut [u8], leasts: &mut [u16])
     requires { ⌜ (Suits s (now table)) × (length (now ends) ≡ 256) × (length (now leasts) ≡ 256) ⌝ }
     ensures { λ x. ⌜ Kept s (now (table .entry)) (now (ends .exit)) (now (leasts .exit)) ⌝ }
@@ -57,6 +58,7 @@ pub fn keep(table: &[u8], s: Sizes, ends: &mut [u8], leasts: &mut [u16])
     keep_leasts(table, s, leasts);
 }
 
+// Their ends and the types that they send.
 fn keep_ends(table: &[u8], s: Sizes, ends: &mut [u8])
     requires { ⌜ (Suits s (now table)) × (length (now ends) ≡ 256) ⌝ }
     ensures { λ x. ⌜ EndsTo (s .types) (now (table .entry)) (now (ends .exit)) (s .rules) ⌝ }
@@ -69,6 +71,7 @@ fn keep_ends(table: &[u8], s: Sizes, ends: &mut [u8])
     }
 }
 
+// Those of rule r, read before the first is written.
 fn ends_of(table: &[u8], s: Sizes, ends: &mut [u8], r: usize)
     requires { ⌜ (Suits s (now table)) × (r < s .rules) × (length (now ends) ≡ 256) ⌝ }
     ensures { λ x. ⌜ now (ends .exit) ≡ set (set (set (now (ends .entry)) (r * 4) (fromOf (now (table .entry)) r)) (r * 4 + 1) (toOf (now (table .entry)) r)) (r * 4 + 2) (sendsOf (s .types) (now (table .entry)) r) ⌝ }
@@ -82,7 +85,7 @@ fn ends_of(table: &[u8], s: Sizes, ends: &mut [u8], r: usize)
     ends[at + 2] = sends as u8;
 }
 
-// The type that rule r sends, by the masks of its ends.
+// The type that rule r sends, by the masks of its ends; as many as there are types where it sends none.
 fn sent_by(table: &[u8], s: Sizes, r: usize, from: usize, to: usize) -> usize
     requires { ⌜ (Suits s (now table)) × (r < s .rules) × (from ≡ fromOf (now table) r) × (to ≡ toOf (now table) r) ⌝ }
     ensures { λ x. ⌜ (x ≡ sendsOf (s .types) (now (table .entry)) r) × (x ≤ 4) ⌝ }
@@ -92,6 +95,7 @@ fn sent_by(table: &[u8], s: Sizes, r: usize, from: usize, to: usize) -> usize
     senders::lowest_missing(new, old, s.types as u64) as usize
 }
 
+// For each rule and type, the least count that meets the threshold.
 fn keep_leasts(table: &[u8], s: Sizes, leasts: &mut [u16])
     requires { ⌜ (Suits s (now table)) × (length (now leasts) ≡ 256) ⌝ }
     ensures { λ x. ⌜ LeastsTo s (now (table .entry)) (now (leasts .exit)) (s .rules) 0 ⌝ }
@@ -104,6 +108,7 @@ fn keep_leasts(table: &[u8], s: Sizes, leasts: &mut [u16])
     }
 }
 
+// Those of rule r.
 fn leasts_of(table: &[u8], s: Sizes, leasts: &mut [u16], r: usize)
     requires { ⌜ (Suits s (now table)) × (r < s .rules) × (LeastsTo s (now table) (now leasts) r 0) ⌝ }
     ensures { λ x. ⌜ LeastsTo s (now (table .entry)) (now (leasts .exit)) r (s .types) ⌝ }

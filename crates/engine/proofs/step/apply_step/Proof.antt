@@ -1,7 +1,5 @@
-use mathlib.Core.List.{List}
 use mathlib.Core.Path.{_≡_, ap, _∙_, subst⁻¹}
 use native.Mathlib.Omega.{arith}
-use borrow.Author.Needs.{needs}
 use lib.ListN.{length}
 use Rattle.engine.proofs.KeepLaws.{holds-more, holds-heard}
 use Rattle.engine.proofs.StepLaws.{granted}
