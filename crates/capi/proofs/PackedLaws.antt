@@ -5,7 +5,7 @@ use Prim.Native.Nat.{ℕ, _+_, _*_, _/_, _%_, _^_, _≤_, _<_}
 use native.Mathlib.Omega.{arith}
 use borrow.Author.Tests.{ne-eqb}
 use Rattle.fault.specs.Fault.{_if_else_}
-use Rattle.engine.specs.declared.Answer.{Answer}
+use Rattle.fault.specs.declared.Answer.{Answer}
 use Rattle.engine.specs.Entry.{runAnswer}
 use Rattle.engine.proofs.BoundLaws.{AnswerWithin, run-answer-within}
 use Rattle.translate.specs.Entry.{translateAnswer}

@@ -6,7 +6,7 @@ use Prim.Native.Nat.{ℕ, _+_, _*_, _/_, _%_, _^_, _≤_, _<_}
 use lib.Dec.{eqb}
 use Rattle.fault.specs.Tests.{_differs_}
 use Rattle.fault.specs.Fault.{_if_else_}
-use Rattle.engine.specs.declared.Answer.{Answer}
+use Rattle.fault.specs.declared.Answer.{Answer}
 use Rattle.engine.specs.Entry.{runAnswer}
 use Rattle.translate.specs.Entry.{translateAnswer}
 use Rattle.first_step.specs.declared.First.{First}

@@ -5,7 +5,7 @@ ghost use Rattle.engine.specs.Entry.{runAnswer, runWords};
 ghost use Rattle.translate.specs.Entry.{translateAnswer, translateBytes};
 ghost use Rattle.first_step.specs.Entry.{firstAnswer};
 ghost use Rattle.capi.specs.Packed.{packed, Fits, packedFirst, FirstFits};
-use engine::Answer;
+use fault::Answer;
 use first_step::First;
 
 // Runs a bundle's schedule in the lent words: refusal, place, steps accepted.

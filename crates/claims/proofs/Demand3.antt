@@ -11,7 +11,7 @@ use lib.Seq.{take-length, take-all}
 use borrow.Author.Tests.{eq-eqb, ne-eqb, le-ltb}
 use Rattle.fault.specs.declared.Verdict.{Verdict}
 use Rattle.fault.specs.Tests.{_below_, _differs_}
-use Rattle.fault.specs.Fault.{refused, _if_else_}
+use Rattle.fault.specs.Fault.{refused, nothingDone, _if_else_}
 use Rattle.fault.proofs.FaultLaws.{if-yes, if-no}
 use Rattle.table.specs.Table.{typesOf, rulesOf}
 use Rattle.bundle.specs.Bundle.{nOf, tOf, fOf, formOf, correctOf, tableInUse, startsOf}
@@ -26,9 +26,9 @@ use Rattle.agree.specs.Translation.{tagged, lowest, lowAll}
 use Rattle.agree.specs.Picture.{Kept, Pictured}
 use Rattle.agree.proofs.Runs.{forward-run, backward-run}
 use Rattle.engine.specs.declared.Sizes.{Sizes}
-use Rattle.engine.specs.declared.Answer.{Answer}
+use Rattle.fault.specs.declared.Answer.{Answer}
 use Rattle.engine.specs.Design.{sizesOf, designOf, roomOf}
-use Rattle.engine.specs.Entry.{sizesIn, designIn, startOf, scheduleOf, ranWith, ranOf, unrun, ranAnswer, runAnswer}
+use Rattle.engine.specs.Entry.{sizesIn, designIn, startOf, scheduleOf, ranWith, ranOf, ranAnswer, runAnswer}
 use Rattle.engine.proofs.PlaceLaws.{rows-few, rows-are}
 use Rattle.engine.proofs.EntryLaws.{suits}
 use Rattle.translate.specs.Written.{moved, rewritten, translationWith}
@@ -210,7 +210,7 @@ room-few b standing lent z l =
 
 module _ (b standing : List ℕ) (lent : ℕ) (l : 580 ≤ lent) where
   -- what `run` answers where it refuses at reading, and else
-  run-unread : (readFault b standing .number ≡ 0 → ⊥) → runAnswer b standing lent ≡ unrun (readFault b standing)
+  run-unread : (readFault b standing .number ≡ 0 → ⊥) → runAnswer b standing lent ≡ nothingDone (readFault b standing)
   unfolding runAnswer
   run-unread n = sym (if-yes _ refl refl (ap not (ne-eqb _ 0 n)))
 
@@ -235,10 +235,10 @@ module _ (b standing out : List ℕ) where
   abbrev Refused : Answer → Type 0
   Refused a = Refuses b standing out a
 
-  unread : (readFault b standing .number ≡ 0 → ⊥) → Refused (unrun (readFault b standing))
+  unread : (readFault b standing .number ≡ 0 → ⊥) → Refused (nothingDone (readFault b standing))
   unread n = let E = enter-refused b standing out refl n refl in record { answer = sym (E .answer); bytes = sym (E .bytes) }
 
-  short : readFault b standing .number ≡ 0 → length out < length b → Refused (unrun (refused 30))
+  short : readFault b standing .number ≡ 0 → length out < length b → Refused (nothingDone (refused 30))
   short z l = let E = enter-short b standing out refl z l refl in record { answer = sym (E .answer); bytes = sym (E .bytes) }
 
   stopped : readFault b standing .number ≡ 0 → length b ≤ length out → (ranOf b standing .refusal ≡ 0 → ⊥) → Refused (ranAnswer (ranOf b standing))

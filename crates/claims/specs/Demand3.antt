@@ -11,7 +11,7 @@ use Rattle.paper.specs.Paper.{Design, Step}
 use Rattle.paper.specs.Run.{after}
 use Rattle.agree.specs.Translation.{tagged, lowest}
 use Rattle.agree.specs.Picture.{Pictured}
-use Rattle.engine.specs.declared.Answer.{Answer}
+use Rattle.fault.specs.declared.Answer.{Answer}
 use Rattle.engine.specs.Entry.{designIn, startOf, scheduleOf, ranOf, runAnswer}
 use Rattle.translate.specs.Entry.{translationOf, translateAnswer, translateBytes}
 use Rattle.first_step.specs.First.{Found, none, found, first}

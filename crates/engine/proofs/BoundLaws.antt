@@ -13,7 +13,7 @@ use Rattle.bundle.specs.Refusals.{readFault}
 use Rattle.bundle.specs.Facts.{Read}
 use Rattle.bundle.proofs.BundleLaws.{read-by, read-within}
 use Rattle.paper.proofs.RunLaws.{length-steps, RanWithin, run-within}
-use Rattle.engine.specs.declared.Answer.{Answer}
+use Rattle.fault.specs.declared.Answer.{Answer}
 use Rattle.engine.specs.Design.{sizesOf, designOf, roomOf}
 use Rattle.engine.specs.Entry.{scheduleOf, startOf, sizesIn, ranWith, ranOf, ranAnswer, runAnswer}
 

@@ -9,7 +9,7 @@ use lib.ListN.{length, getD, drop}
 use borrow.Author.Tests.{eq-eqb, ne-eqb, lt-ltb, le-ltb}
 use Rattle.fault.specs.declared.Verdict.{Verdict}
 use Rattle.fault.specs.Tests.{_below_, _differs_}
-use Rattle.fault.specs.Fault.{refused, _if_else_}
+use Rattle.fault.specs.Fault.{refused, nothingDone, _if_else_}
 use Rattle.fault.proofs.FaultLaws.{if-yes, if-no}
 use Rattle.bundle.specs.Bundle.{tableInUse, correctOf, startsOf, stepsOf}
 use Rattle.bundle.specs.Refusals.{readFault}
@@ -21,9 +21,9 @@ use Rattle.paper.specs.Run.{stepsIn, run}
 use Rattle.paper.proofs.WordLaws.{start-low, start-high, length-start}
 use Rattle.paper.proofs.RunLaws.{length-steps}
 use Rattle.engine.specs.declared.Sizes.{Sizes}
-use Rattle.engine.specs.declared.Answer.{Answer}
+use Rattle.fault.specs.declared.Answer.{Answer}
 use Rattle.engine.specs.Design.{sizesOf, designOf, roomOf}
-use Rattle.engine.specs.Entry.{sizesIn, ranWith, unrun, ranAnswer, runAnswer, runWords}
+use Rattle.engine.specs.Entry.{sizesIn, ranWith, ranAnswer, runAnswer, runWords}
 use Rattle.engine.specs.Facts.{Suits, Holds}
 use Rattle.engine.proofs.KeepLaws.{holds-more}
 use Rattle.engine.proofs.RunLaws.{run-holds}
@@ -89,11 +89,11 @@ pub record Entered (b standing lent : List ℕ) (a : Answer) (u : List ℕ) : Ty
   pub words : u ≡ runWords b standing lent
 
 module _ (b standing lent : List ℕ) where
-  pub enter-refused : {v : Verdict} {a : Answer} → v ≡ readFault b standing → (v .number ≡ 0 → ⊥) → a ≡ unrun v → Entered b standing lent a lent
+  pub enter-refused : {v : Verdict} {a : Answer} → v ≡ readFault b standing → (v .number ≡ 0 → ⊥) → a ≡ nothingDone v → Entered b standing lent a lent
   unfolding runAnswer runWords
   enter-refused {v} {a} e n f =
       let m : (readFault b standing .number differs 0) ≡ true = ap not (ne-eqb _ 0 (λ z. n (ap (λ (x : Verdict). x .number) e ∙ z))) in
-      record { answer = if-yes _ (f ∙ ap unrun e) refl m; words = if-yes _ refl refl m }
+      record { answer = if-yes _ (f ∙ ap nothingDone e) refl m; words = if-yes _ refl refl m }
 
   module _ {v : Verdict} {t : List ℕ} {s : Sizes} {need : ℕ} (e : v ≡ readFault b standing) (z : v .number ≡ 0) (g : t ≡ tableInUse b standing) (h : s ≡ sizesOf t b) (k : need ≡ roomOf s) where
     read : Read t b
@@ -108,7 +108,7 @@ module _ (b standing lent : List ℕ) where
     pub enter-read : Read t b
     enter-read = read
 
-    pub enter-short : {a : Answer} → length lent < need → a ≡ unrun (refused 30) → Entered b standing lent a lent
+    pub enter-short : {a : Answer} → length lent < need → a ≡ nothingDone (refused 30) → Entered b standing lent a lent
     unfolding runAnswer runWords
     enter-short {a} l f =
         let m : (length lent below roomOf (sizesIn b standing)) ≡ true = lt-ltb (length lent) (roomOf (sizesIn b standing)) (rw (← room) l) in

@@ -17,7 +17,7 @@ use Rattle.paper.specs.Run.{stepsIn, Ran, run, noStep}
 use Rattle.paper.proofs.WordLaws.{start-low, start-high, length-start}
 use Rattle.paper.proofs.RunLaws.{length-steps, run-goes, run-stops, step-at, Running, ranTo, running-starts, running-goes, running-stops, running-ends}
 use Rattle.engine.specs.declared.Sizes.{Sizes}
-use Rattle.engine.specs.declared.Answer.{Answer}
+use Rattle.fault.specs.declared.Answer.{Answer}
 use Rattle.engine.specs.Design.{designOf, recordAt, roomOf}
 use Rattle.engine.specs.Entry.{ranAnswer}
 use Rattle.engine.specs.Facts.{Suits, Holds}

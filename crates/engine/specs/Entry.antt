@@ -5,7 +5,7 @@ use lib.Dec.{eqb}
 use lib.ListN.{length, drop}
 use Rattle.fault.specs.declared.Verdict.{Verdict}
 use Rattle.fault.specs.Tests.{_below_, _differs_}
-use Rattle.fault.specs.Fault.{refused, _if_else_}
+use Rattle.fault.specs.Fault.{refused, nothingDone, _if_else_}
 use Rattle.bundle.specs.Bundle.{tableInUse, startsOf, stepsOf}
 use Rattle.bundle.specs.Refusals.{readFault}
 use Rattle.paper.specs.Paper.{Design, Step}
@@ -13,7 +13,7 @@ use Rattle.paper.specs.Words.{start}
 use Rattle.paper.specs.Form.{wide}
 use Rattle.paper.specs.Run.{stepsIn, Ran, run}
 use Rattle.engine.specs.declared.Sizes.{Sizes}
-use Rattle.engine.specs.declared.Answer.{Answer}
+use Rattle.fault.specs.declared.Answer.{Answer}
 use Rattle.engine.specs.Design.{sizesOf, designOf, roomOf}
 
 -- ---- a bundle with its table in use
@@ -39,10 +39,6 @@ abbrev pub ranOf : List ℕ → List ℕ → Ran
 ranOf b standing = ranWith (tableInUse b standing) b
 
 -- ---- refusal, place, steps accepted
--- a refusal before the first step: its own place, and no step
-abbrev pub unrun : Verdict → Answer
-unrun v = record { refusal = v .number; place = v .place; count = 0 }
-
 -- a run: a refused step's place is the number of the steps before it
 unfoldable pub ranAnswer : Ran → Answer
 ranAnswer r = record { refusal = r .refusal; place = 0 if eqb (r .refusal) 0 else r .accepted; count = r .accepted }
@@ -50,8 +46,8 @@ ranAnswer r = record { refusal = r .refusal; place = 0 if eqb (r .refusal) 0 els
 -- what reading refuses; 30: lent output shorter than the words needed; then the steps
 unfoldable pub runAnswer : List ℕ → List ℕ → ℕ → Answer
 runAnswer b standing lent =
-    unrun (readFault b standing) if readFault b standing .number differs 0 else
-    unrun (refused 30) if lent below roomOf (sizesIn b standing) else
+    nothingDone (readFault b standing) if readFault b standing .number differs 0 else
+    nothingDone (refused 30) if lent below roomOf (sizesIn b standing) else
     ranAnswer (ranOf b standing)
 
 -- a refusal before the first step changes no word; a run leaves its configuration, and the words past it as they were

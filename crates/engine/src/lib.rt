@@ -13,6 +13,7 @@ ghost use Rattle.paper.specs.Run as runs;
 ghost use Rattle.engine.specs.Design.{sizesOf, designOf, recordAt, roomOf};
 ghost use Rattle.engine.specs.Entry.{ranAnswer, ranWith, runAnswer, runWords};
 ghost use Rattle.engine.specs.Facts.{Suits, Kept, Holds};
+use fault::Answer;
 
 pub mod form; // functions of the form's number
 pub mod words; // the words of a configuration
@@ -32,13 +33,6 @@ pub struct Sizes {
     pub row: usize,
 }
 
-// Refusal, place and a count.
-pub struct Answer {
-    pub refusal: u64,
-    pub place: u64,
-    pub count: u64,
-}
-
 // Runs a bundle's schedule in the lent words, for every bundle, standing table and lent slice.
 pub fn run<'a>(bundle: &'a [u8], standing: &'a [u8], lent: &mut [u64]) -> Answer
     ensures { λ r. ⌜ r ≡ runAnswer (now (bundle .entry)) (now (standing .entry)) (length (now (lent .entry))) ⌝ }
@@ -46,13 +40,13 @@ pub fn run<'a>(bundle: &'a [u8], standing: &'a [u8], lent: &mut [u64]) -> Answer
 {
     let v = bundle::read_fault(bundle, standing);
     if v.number != 0 {
-        return answered(v.number, v.place, 0);
+        return fault::answered(v.number, v.place, 0);
     }
     let table = bundle::table_in_use(bundle, standing);
     let s = sizes_of(table, bundle);
     let need = words::room(s);
     if lent.len() < need {
-        return answered(30, 0, 0);
+        return fault::answered(30, 0, 0);
     }
     // The most that a table has: 64 rules.
     let mut ends = [0u8; 256];
@@ -75,17 +69,6 @@ fn run_kept(
 {
     rules::keep(table, s, ends, leasts);
     run_in(table, bundle, s, ends, leasts, w)
-}
-
-// The answer of three numbers.
-pub fn answered(refusal: usize, place: usize, count: usize) -> Answer
-    ensures { λ r. ⌜ r ≡ record { refusal = refusal; place = place; count = count } ⌝ }
-{
-    Answer {
-        refusal: refusal as u64,
-        place: place as u64,
-        count: count as u64,
-    }
 }
 
 // The numbers of a bundle and its table.
@@ -166,11 +149,11 @@ fn run_steps(
     while i < total {
         let x = step_at(table, s, ends, leasts, steps, i, w);
         if x != 0 {
-            return answered(x, i, i);
+            return fault::answered(x, i, i);
         }
         i += 1;
     }
-    answered(0, 0, total)
+    fault::answered(0, 0, total)
 }
 
 // The step that record i names, or its refusal.

@@ -3,6 +3,7 @@ use mathlib.Core.Bool.{Bool, cond}
 use Prim.Native.Nat.{ℕ, zero, suc}
 use lib.Dec.{eqb}
 use Rattle.fault.specs.declared.Verdict.{Verdict}
+use Rattle.fault.specs.declared.Answer.{Answer}
 
 abbrev pub verdict : ℕ → ℕ → Verdict
 verdict k p = record { number = k; place = p }
@@ -14,6 +15,10 @@ fine = verdict 0 0
 -- a refusal for which no place is named
 abbrev pub refused : ℕ → Verdict
 refused k = verdict k 0
+
+-- the answer of a refusal after which nothing is done: its own place, and count 0
+abbrev pub nothingDone : Verdict → Answer
+nothingDone v = record { refusal = v .number; place = v .place; count = 0 }
 
 infixr 20 _if_else_ _▹_
 -- the first where the test says yes, and else the rest

@@ -12,6 +12,24 @@ pub struct Verdict {
     pub place: usize,
 }
 
+// What a call answers: refusal, place and a count.
+pub struct Answer {
+    pub refusal: u64,
+    pub place: u64,
+    pub count: u64,
+}
+
+// The answer of three numbers.
+pub fn answered(refusal: usize, place: usize, count: usize) -> Answer
+    ensures { λ r. ⌜ r ≡ record { refusal = refusal; place = place; count = count } ⌝ }
+{
+    Answer {
+        refusal: refusal as u64,
+        place: place as u64,
+        count: count as u64,
+    }
+}
+
 // The refusal of a number at a place.
 pub fn refusal(number: usize, place: usize) -> Verdict
     ensures { λ r. ⌜ r ≡ verdict number place ⌝ }

@@ -9,12 +9,12 @@ use lib.ListN.{length, drop}
 use borrow.Author.Tests.{eq-eqb, ne-eqb, lt-ltb, le-ltb}
 use Rattle.fault.specs.declared.Verdict.{Verdict}
 use Rattle.fault.specs.Tests.{_below_, _differs_}
-use Rattle.fault.specs.Fault.{refused, _if_else_}
+use Rattle.fault.specs.Fault.{refused, nothingDone, _if_else_}
 use Rattle.fault.proofs.FaultLaws.{if-yes, if-no}
 use Rattle.bundle.specs.Bundle.{tableInUse}
 use Rattle.bundle.specs.Refusals.{readFault}
-use Rattle.engine.specs.declared.Answer.{Answer}
-use Rattle.engine.specs.Entry.{ranWith, ranOf, unrun, ranAnswer}
+use Rattle.fault.specs.declared.Answer.{Answer}
+use Rattle.engine.specs.Entry.{ranWith, ranOf, ranAnswer}
 use Rattle.engine.proofs.EntryLaws.{answer-number, answer-place}
 use Rattle.translate.specs.Written.{translationWith}
 use Rattle.translate.specs.Entry.{wrote, translateAnswer, translateBytes}
@@ -46,17 +46,17 @@ pub record Entered (b standing out : List ℕ) (r : Answer) (u : List ℕ) : Typ
   pub bytes : u ≡ translateBytes b standing out
 
 module _ {v : Verdict} (b standing out : List ℕ) (e : v ≡ readFault b standing) where
-  pub enter-refused : {r : Answer} → (v .number ≡ 0 → ⊥) → r ≡ unrun v → Entered b standing out r out
+  pub enter-refused : {r : Answer} → (v .number ≡ 0 → ⊥) → r ≡ nothingDone v → Entered b standing out r out
   unfolding translateAnswer translateBytes
   enter-refused n f =
       let m : (readFault b standing .number differs 0) ≡ true = ap not (ne-eqb _ 0 (λ z. n (ap (λ (x : Verdict). x .number) e ∙ z))) in
-      record { answer = if-yes _ (f ∙ ap unrun e) refl m; bytes = if-yes _ refl refl m }
+      record { answer = if-yes _ (f ∙ ap nothingDone e) refl m; bytes = if-yes _ refl refl m }
 
   module _ (z : v .number ≡ 0) where
     clean : (readFault b standing .number differs 0) ≡ false
     clean = ap not (eq-eqb _ 0 (ap (λ (x : Verdict). x .number) (sym e) ∙ z))
 
-    pub enter-short : {r : Answer} → length out < length b → r ≡ unrun (refused 30) → Entered b standing out r out
+    pub enter-short : {r : Answer} → length out < length b → r ≡ nothingDone (refused 30) → Entered b standing out r out
     unfolding translateAnswer translateBytes
     enter-short l f =
         let m : (length out below length b) ≡ true = lt-ltb (length out) (length b) l in

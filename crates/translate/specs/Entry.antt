@@ -4,12 +4,12 @@ use Prim.Native.Nat.{ℕ}
 use lib.Dec.{eqb}
 use lib.ListN.{length, drop}
 use Rattle.fault.specs.Tests.{_below_, _differs_}
-use Rattle.fault.specs.Fault.{refused, _if_else_}
+use Rattle.fault.specs.Fault.{refused, nothingDone, _if_else_}
 use Rattle.bundle.specs.Bundle.{tableInUse}
 use Rattle.bundle.specs.Refusals.{readFault}
 use Rattle.paper.specs.Run.{Ran}
-use Rattle.engine.specs.declared.Answer.{Answer}
-use Rattle.engine.specs.Entry.{ranOf, unrun}
+use Rattle.fault.specs.declared.Answer.{Answer}
+use Rattle.engine.specs.Entry.{ranOf}
 use Rattle.translate.specs.Written.{translationWith}
 
 abbrev pub translationOf : List ℕ → List ℕ → List ℕ
@@ -24,8 +24,8 @@ wrote n r =
 -- what reading refuses; 30: lent output shorter than the bytes needed; then the steps
 unfoldable pub translateAnswer : List ℕ → List ℕ → ℕ → Answer
 translateAnswer b standing lent =
-    unrun (readFault b standing) if readFault b standing .number differs 0 else
-    unrun (refused 30) if lent below length b else
+    nothingDone (readFault b standing) if readFault b standing .number differs 0 else
+    nothingDone (refused 30) if lent below length b else
     wrote (length b) (ranOf b standing)
 
 -- any refusal changes no byte; the translation leaves the bytes past it as they were

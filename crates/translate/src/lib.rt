@@ -22,8 +22,8 @@ ghost use Rattle.engine.specs.Facts.{Bounded, Suits, EndsTo, Kept, Holds, At};
 ghost use Rattle.translate.specs.Written.{bytesOf, moved, translationWith};
 ghost use Rattle.translate.specs.Facts.{inMessageForm, lowestIn, RunsLow};
 ghost use Rattle.translate.specs.Entry.{wrote, translateAnswer, translateBytes};
-use engine::Answer;
 use engine::Sizes;
+use fault::Answer;
 
 // Writes the bundle in the other form, or refuses as running does; 30 measures bytes.
 pub fn translate<'a>(bundle: &'a [u8], standing: &'a [u8], out: &mut [u8]) -> Answer
@@ -32,11 +32,11 @@ pub fn translate<'a>(bundle: &'a [u8], standing: &'a [u8], out: &mut [u8]) -> An
 {
     let v = bundle::read_fault(bundle, standing);
     if v.number != 0 {
-        return engine::answered(v.number, v.place, 0);
+        return fault::answered(v.number, v.place, 0);
     }
     let need = bundle.len();
     if out.len() < need {
-        return engine::answered(30, 0, 0);
+        return fault::answered(30, 0, 0);
     }
     let table = bundle::table_in_use(bundle, standing);
     // The most that a configuration has: 64 states, 64 · 4 pairs of counts, 4 sent.
@@ -78,7 +78,7 @@ fn translate_in(
         };
     }
     write(table, bundle, s, ends, words, out);
-    engine::answered(0, 0, bundle.len())
+    fault::answered(0, 0, bundle.len())
 }
 
 // The bundle's run in its own form.
