@@ -1,0 +1,13 @@
+pub mod Figures
+pub mod Fits
+pub mod NumberLaws
+pub mod Sound
+pub mod Ends
+pub mod Complete
+pub mod Place
+pub mod Blanks
+pub mod Pieces
+pub mod Written
+pub mod Kept
+pub mod Tokens
+pub mod TokenPlace

@@ -1,0 +1,271 @@
+-- A number and its digits: each byte that a number takes is the next of its decimal text.
+use Prim.Native.Nat.{ℕ, _≤_, _<_, _/_, _%_, _+_, _-_, _*_}
+use mathlib.Core.Path.{_≡_, refl}
+use mathlib.Core.Bool.{Bool, true, false, cond, _&&_, not, false≢true}
+use mathlib.Core.List.{List, [], _∷_, _++_}
+use native.Mathlib.Omega.{arith}
+use lib.Dec.{eqb, leb, ltb}
+use borrow.Author.Tests.{ltb-true, ltb-false, leb-true, eqb-true, eqb-false, lt-ltb, le-ltb, le-leb, not-true}
+use Rattle.fault.specs.Fault.{_if_else_}
+use Rattle.dot.specs.Numbers.{decimal, signed}
+use Rattle.dot.specs.Reading.{isDigit, Num, none, minus, some, Grown, grown, no-more, grow, limit, byteOf}
+use Rattle.dot.proofs.Fits.{spell, allowed}
+
+-- ---- tests
+-- two tests that both pass
+pub both : (a b : Bool) → (a && b) ≡ true → (a ≡ true) × (b ≡ true)
+both true b h = (refl, h)
+both false b h = absurd (false≢true h)
+
+-- and the test of both
+pub join : (a b : Bool) → a ≡ true → b ≡ true → (a && b) ≡ true
+join a b p q = rw (p, q)
+
+-- a digit lies from 48 to 57
+pub record Digit (c : ℕ) : Type 0 where
+  pub from : 48 ≤ c
+  pub to : c ≤ 57
+
+-- and a byte that passes the test is one
+pub digit : (c : ℕ) → isDigit c ≡ true → Digit c
+unfolding isDigit
+digit c h =
+    let p = both (leb 48 c) (leb c 57) h in
+    record { from = leb-true 48 c (p .0); to = leb-true c 57 (p .1) }
+
+-- ---- decimal text
+-- below 10
+pub one-digit : (v : ℕ) → v < 10 → decimal v ≡ (48 + v) ∷ []
+unfolding decimal _if_else_
+one-digit v h = rw (lt-ltb v 10 h)
+
+-- below 100
+pub two-digits : (v : ℕ) → 10 ≤ v → v < 100 → decimal v ≡ (48 + v / 10) ∷ (48 + v % 10) ∷ []
+unfolding decimal _if_else_
+two-digits v l h = rw (le-ltb v 10 l, lt-ltb v 100 h)
+
+-- from 100 on
+pub three-digits : (v : ℕ) → 100 ≤ v → decimal v ≡ (48 + v / 100) ∷ (48 + v / 10 % 10) ∷ (48 + v % 10) ∷ []
+unfolding decimal _if_else_
+three-digits v l = let o : 10 ≤ v = omega arith in rw (le-ltb v 10 o, le-ltb v 100 l)
+
+-- a digit is the text of the number that it stands for
+digit-first : (c : ℕ) → Digit c → decimal (c - 48) ≡ c ∷ []
+digit-first c d =
+    let o : c - 48 < 10 = omega arith in
+    let e : 48 + (c - 48) ≡ c = omega arith in
+    rw (one-digit (c - 48) o, e)
+
+-- a digit more at the end of a number that is not 0
+digit-next : (v c : ℕ) → Digit c → (v ≡ 0 → ⊥) → v * 10 + (c - 48) ≤ 255 → decimal (v * 10 + (c - 48)) ≡ decimal v ++ (c ∷ [])
+digit-next v c d nz l = go (ltb v 10) refl
+  where
+    go : (b : Bool) → ltb v 10 ≡ b → decimal (v * 10 + (c - 48)) ≡ decimal v ++ (c ∷ [])
+    go true h =
+        let l10 : v < 10 = ltb-true v 10 h in
+        let a : 10 ≤ v * 10 + (c - 48) = omega arith in
+        let b : v * 10 + (c - 48) < 100 = omega arith in
+        let e : (v * 10 + (c - 48)) / 10 ≡ v = omega arith in
+        let f : 48 + (v * 10 + (c - 48)) % 10 ≡ c = omega arith in
+        rw (two-digits (v * 10 + (c - 48)) a b, one-digit v l10, e, f)
+    go false h =
+        let l10 : 10 ≤ v = ltb-false v 10 h in
+        let l100 : v < 100 = omega arith in
+        let a : 100 ≤ v * 10 + (c - 48) = omega arith in
+        let e : (v * 10 + (c - 48)) / 100 ≡ v / 10 = omega arith in
+        let g : (v * 10 + (c - 48)) / 10 % 10 ≡ v % 10 = omega arith in
+        let f : 48 + (v * 10 + (c - 48)) % 10 ≡ c = omega arith in
+        rw (three-digits (v * 10 + (c - 48)) a, two-digits v l10 l100, e, g, f)
+
+-- ---- ranges
+-- no number is above 255
+pub limit-most : (g b : Bool) → limit g b ≤ 255
+unfolding limit
+limit-most true true = omega arith
+limit-most true false = omega arith
+limit-most false b = omega arith
+
+-- and every number has room for a digit
+pub limit-least : (g b : Bool) → 9 ≤ limit g b
+unfolding limit
+limit-least true true = omega arith
+limit-least true false = omega arith
+limit-least false b = omega arith
+
+-- a number below 0 in its range
+pub record Negative (g : Bool) (v : ℕ) : Type 0 where
+  pub can : g ≡ true
+  pub least : 1 ≤ v
+  pub most : v ≤ limit g true
+
+-- what passes the test is one
+pub negative : (g : Bool) (v : ℕ) → allowed g true v ≡ true → Negative g v
+unfolding allowed
+negative g v a =
+    let p = both (g && leb 1 v) (leb v (limit g true)) a in
+    let q = both g (leb 1 v) (p .0) in
+    record { can = q .0; least = leb-true 1 v (q .1); most = leb-true v (limit g true) (p .1) }
+
+-- and passes it
+pub negative-allowed : (g : Bool) (v : ℕ) → Negative g v → allowed g true v ≡ true
+unfolding allowed
+negative-allowed g v n =
+    join (g && leb 1 v) (leb v (limit g true)) (join g (leb 1 v) (n .can) (le-leb 1 v (n .least))) (le-leb v (limit g true) (n .most))
+
+-- the same of one that is not
+pub positive : (g : Bool) (v : ℕ) → allowed g false v ≡ true → v ≤ limit g false
+unfolding allowed
+positive g v a = leb-true v (limit g false) a
+
+-- and what is in range passes
+pub positive-allowed : (g : Bool) (v : ℕ) → v ≤ limit g false → allowed g false v ≡ true
+unfolding allowed
+positive-allowed g v l = le-leb v (limit g false) l
+
+-- ---- a number that is begun
+-- and is in range
+abbrev pub fine : Bool → Num → Bool
+fine g none = true
+fine g minus = g
+fine g (some n v) = allowed g n v
+
+-- it takes the byte c and is y then
+pub record Grew (g : Bool) (x y : Num) (c : ℕ) : Type 0 where
+  pub spelt : spell y ≡ spell x ++ (c ∷ [])
+  pub fine-after : fine g x ≡ true → fine g y ≡ true
+
+-- if it takes the byte
+abbrev pub GrewTo : Bool → Num → ℕ → Grown → Type 0
+GrewTo g x c no-more = Unit {0}
+GrewTo g x c (grown y) = Grew g x y c
+
+-- the first byte is a digit or the minus
+grew-none : (g : Bool) (c : ℕ) → GrewTo g none c (grow g none c)
+unfolding grow spell
+grew-none g c = go (isDigit c) refl
+  where
+    sign : (b : Bool) → (eqb c 45 && g) ≡ b → GrewTo g none c (cond b (grown minus) no-more)
+    sign false h = tt
+    sign true h =
+        let p = both (eqb c 45) g h in
+        record { spelt = rw (eqb-true c 45 (p .0)); fine-after = λ _. p .1 }
+
+    go : (b : Bool) → isDigit c ≡ b →
+        GrewTo g none c (cond b (grown (some false (c - 48))) (cond (eqb c 45 && g) (grown minus) no-more))
+    go true h =
+        let d = digit c h in
+        record {
+          spelt = digit-first c d;
+          fine-after = λ _. positive-allowed g (c - 48) (omega (arith, limit-least g false));
+        }
+    go false h = sign (eqb c 45 && g) refl
+
+-- after the minus a digit other than 0
+grew-minus : (g : Bool) (c : ℕ) → GrewTo g minus c (grow g minus c)
+unfolding grow spell
+grew-minus g c = go (isDigit c && not (eqb c 48)) refl
+  where
+    go : (b : Bool) → (isDigit c && not (eqb c 48)) ≡ b → GrewTo g minus c (cond b (grown (some true (c - 48))) no-more)
+    go false h = tt
+    go true h =
+        let p = both (isDigit c) (not (eqb c 48)) h in
+        let d = digit c (p .0) in
+        let nz : c ≡ 48 → ⊥ = eqb-false c 48 (not-true (eqb c 48) (p .1)) in
+        record {
+          spelt = rw (digit-first c d);
+          fine-after = λ m.
+              negative-allowed g (c - 48)
+              (record { can = m; least = omega (arith, nz); most = omega (arith, limit-least g true) });
+        }
+
+-- a further digit
+grew-digit : (g n : Bool) (v c : ℕ) → Digit c → (v ≡ 0 → ⊥) → v * 10 + (c - 48) ≤ limit g n →
+    Grew g (some n v) (some n (v * 10 + (c - 48))) c
+unfolding spell
+grew-digit g false v c d nz l =
+    record {
+      spelt = digit-next v c d nz (omega (arith, limit-most g false));
+      fine-after = λ _. positive-allowed g (v * 10 + (c - 48)) l;
+    }
+grew-digit g true v c d nz l =
+    record {
+      spelt = rw (digit-next v c d nz (omega (arith, limit-most g true)));
+      fine-after = λ m.
+          negative-allowed g (v * 10 + (c - 48)) (record { can = negative g v m .can; least = omega (arith, nz); most = l });
+    }
+
+-- whether there is a further digit or not
+grew-some : (g n : Bool) (v c : ℕ) → GrewTo g (some n v) c (grow g (some n v) c)
+unfolding grow
+grew-some g n v c = go (isDigit c && not (eqb v 0) && leb (v * 10 + (c - 48)) (limit g n)) refl
+  where
+    go : (b : Bool) → (isDigit c && not (eqb v 0) && leb (v * 10 + (c - 48)) (limit g n)) ≡ b →
+        GrewTo g (some n v) c (cond b (grown (some n (v * 10 + (c - 48)))) no-more)
+    go false h = tt
+    go true h =
+        let p = both (isDigit c && not (eqb v 0)) (leb (v * 10 + (c - 48)) (limit g n)) h in
+        let q = both (isDigit c) (not (eqb v 0)) (p .0) in
+        grew-digit g n v c (digit c (q .0)) (eqb-false v 0 (not-true (eqb v 0) (q .1)))
+        (leb-true (v * 10 + (c - 48)) (limit g n) (p .1))
+
+-- whatever byte a number takes is the next of its text, and leaves it in range
+pub grew : (g : Bool) (x : Num) (c : ℕ) → GrewTo g x c (grow g x c)
+grew g none c = grew-none g c
+grew g minus c = grew-minus g c
+grew g (some n v) c = grew-some g n v c
+
+-- ---- bytes
+-- a byte as a number, signed where minus can be
+abbrev pub spelling : Bool → ℕ → List ℕ
+spelling false = decimal
+spelling true = signed
+
+-- a number in its range that stands for the byte b, and its text
+pub record Spelt (g : Bool) (b : ℕ) : Type 0 where
+  pub below-0 : Bool
+  pub size : ℕ
+  pub in-range : allowed g below-0 size ≡ true
+  pub the-text : spelling g b ≡ spell (some below-0 size)
+  pub the-byte : byteOf below-0 size ≡ b
+
+-- every byte is some number
+pub byte-spelt : (g : Bool) (b : ℕ) → b < 256 → Spelt g b
+unfolding spell signed _if_else_ limit
+byte-spelt false b l =
+    record { below-0 = false; size = b; in-range = positive-allowed false b (omega arith); the-text = refl; the-byte = refl }
+byte-spelt true b l = go (ltb b 128) refl
+  where
+    go : (t : Bool) → ltb b 128 ≡ t → Spelt true b
+    go true h =
+        let o = ltb-true b 128 h in
+        record { below-0 = false; size = b; in-range = positive-allowed true b (omega arith); the-text = rw h; the-byte = refl }
+    go false h =
+        let o = ltb-false b 128 h in
+        record {
+          below-0 = true;
+          size = 256 - b;
+          in-range = negative-allowed true (256 - b) (record { can = refl; least = omega arith; most = omega arith });
+          the-text = rw h;
+          the-byte = omega arith;
+        }
+
+-- every number in its range is some byte, whose text it has
+pub record Stands (g n : Bool) (v : ℕ) : Type 0 where
+  pub a-byte : byteOf n v < 256
+  pub its-text : spelling g (byteOf n v) ≡ spell (some n v)
+
+-- by its sign
+pub stands : (g n : Bool) (v : ℕ) → allowed g n v ≡ true → Stands g n v
+unfolding spell signed _if_else_ limit
+stands false false v a = record { a-byte = omega (arith, positive false v a); its-text = refl }
+stands false true v a = absurd (false≢true (negative false v a .can))
+stands true false v a =
+    let l = positive true v a in
+    let o : v < 128 = omega arith in
+    record { a-byte = omega arith; its-text = rw (lt-ltb v 128 o) }
+stands true true v a =
+    let i = negative true v a in
+    let l = i .most in
+    let o : 128 ≤ 256 - v = omega arith in
+    let e : 256 - (256 - v) ≡ v = omega arith in
+    record { a-byte = omega (arith, i .least); its-text = rw (le-ltb (256 - v) 128 o, e) }

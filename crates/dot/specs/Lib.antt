@@ -1,0 +1,6 @@
+pub mod Numbers
+pub mod Text
+pub mod Plan
+pub mod Reading
+pub mod Drawing
+pub mod Blanks

@@ -1,0 +1,6 @@
+pub mod FromLaws
+pub mod PlanLaws
+pub mod DigitLaws
+pub mod LabelLaws
+pub mod LineLaws
+pub mod EntryLaws

@@ -1,0 +1,31 @@
+use mathlib.Core.Path.{ap, _∙_}
+use mathlib.Core.List.{List}
+use Prim.Native.Nat.{ℕ}
+use native.Mathlib.Omega.{arith}
+use lib.ListN.{length}
+use borrow.Author.Needs.{needs}
+use Rattle.pen.specs.Pen.{stored}
+use Rattle.dot.specs.Text.{drawingOf}
+use Rattle.drawing.specs.Entry.{drawAnswer, drawBytes}
+use Rattle.drawing.proofs.EntryLaws.{sized-table, measured, writes, gave-refused, gave-short, gave-all}
+use Rattle.drawing.proofs.draw.Statement.{statement}
+use Rattle.drawing.proofs.draw.Tie as tie
+
+pub draw-spec : {M : Type 1} → statement M
+unfolding drawAnswer drawBytes
+draw-spec =
+    tie.close
+    (tie.spec
+    (λ c κs. search needs)
+    (λ c κs. search needs)
+    (λ c. let a = c .before .before .before .before .before .before .args in let E = gave-refused (drawingOf (a .table .now)) (a .out .now) (c .before .before .before .table-fault .ensures) (c .before .if1 .taken) (c .answered .ensures) in (E .answer, E .bytes))
+    (λ c. search needs)
+    (λ c. search needs)
+    (λ c κs. sized-table (c .before .before .before .before .before .before .args .table .now) (c .before .before .before .table-fault .ensures) (c .before .if1 .left))
+    (λ c κs. search needs)
+    (λ c. search needs)
+    (λ c. let a = c .before .before .before .before .before .before .before .before .before .before .before .args in let M = measured _ (drawingOf (a .table .now)) (a .out .now) (c .before .before .before .before .write .ensures .2) in let E = gave-short (drawingOf (a .table .now)) (a .out .now) (c .before .before .before .before .before .before .before .before .table-fault .ensures) (c .before .before .before .before .before .before .if1 .left) (omega (arith, ap length M, c .before .before .before .before .write .ensures .0, c .before .if2 .taken)) (c .answered2 .ensures) in (E .answer, M ∙ E .bytes))
+    (λ c κs. sized-table (c .before .before .before .before .before .before .before .before .before .before .before .args .table .now) (c .before .before .before .before .before .before .before .before .table-fault .ensures) (c .before .before .before .before .before .before .if1 .left))
+    (λ c κs. search needs)
+    (λ c. search needs)
+    (λ c. let a = c .before .before .before .before .before .before .before .before .before .before .before .before .before .before .before .args in let M = measured _ (drawingOf (a .table .now)) (a .out .now) (c .before .before .before .before .before .before .before .before .write .ensures .2) in let E = gave-all (drawingOf (a .table .now)) (a .out .now) (c .before .before .before .before .before .before .before .before .before .before .before .before .table-fault .ensures) (c .before .before .before .before .before .before .before .before .before .before .if1 .left) (omega (arith, ap length M, c .before .before .before .before .before .before .before .before .write .ensures .0, c .before .before .before .before .before .if2 .left)) (c .answered3 .ensures ∙ ap writes (c .before .before .before .before .before .before .before .before .write .ensures .0)) (c .before .before .before .write2 .ensures .2 ∙ ap (λ (l : List ℕ). stored l 0 (drawingOf (a .table .now))) M) in (E .answer, E .bytes)))

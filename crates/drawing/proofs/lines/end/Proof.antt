@@ -1,0 +1,8 @@
+use native.Mathlib.Omega.{arith}
+use borrow.Author.Needs.{needs}
+use Rattle.drawing.proofs.LineLaws.{closed-stuck, closed-ended}
+use Rattle.drawing.proofs.lines.end.Statement.{statement}
+use Rattle.drawing.proofs.lines.end.Tie as tie
+
+pub end-spec : {M : Type 1} → statement M
+end-spec = tie.close (tie.spec (λ c κs. search needs) (λ c κs. search needs) (λ c. search closed-stuck) (λ c. search (closed-ended, needs)))

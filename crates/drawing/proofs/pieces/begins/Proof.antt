@@ -1,0 +1,6 @@
+use borrow.Author.Needs.{needs}
+use Rattle.drawing.proofs.pieces.begins.Statement.{statement}
+use Rattle.drawing.proofs.pieces.begins.Tie as tie
+
+pub begins-spec : {M : Type 1} → statement M
+begins-spec = tie.close (tie.spec (λ c κs. search needs) (λ c. rw (c .is-digit .ensures)))

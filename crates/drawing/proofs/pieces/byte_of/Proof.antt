@@ -1,0 +1,14 @@
+use mathlib.Core.Path.{refl}
+use native.Mathlib.Omega.{arith}
+use borrow.Author.Needs.{needs}
+use Rattle.dot.specs.Reading.{byteOf}
+use Rattle.drawing.proofs.pieces.byte_of.Statement.{statement}
+use Rattle.drawing.proofs.pieces.byte_of.Tie as tie
+
+pub byte-of-spec : {M : Type 1} → statement M
+byte-of-spec =
+    tie.close
+    (tie.spec
+    (λ c. search needs)
+    (λ c. (rw (c .if1 .taken), let p = c .before .pre .1 (c .if1 .taken) in omega (arith, p)))
+    (λ c. (rw (c .if1 .left), search needs)))

@@ -1,0 +1,15 @@
+use borrow.Author.Needs.{needs}
+use Rattle.drawing.proofs.DigitLaws.{digit-least, goes-on-digit, goes-on-other}
+use Rattle.drawing.proofs.pieces.grows.Statement.{statement}
+use Rattle.drawing.proofs.pieces.grows.Tie as tie
+
+pub grows-spec : {M : Type 1} → statement M
+grows-spec =
+    tie.close
+    (tie.spec
+    (λ c κs. search needs)
+    (λ c. search needs)
+    (λ c. search digit-least)
+    (λ c. search needs)
+    (λ c. search goes-on-digit)
+    (λ c. search goes-on-other))

@@ -1,0 +1,16 @@
+use borrow.Author.Needs.{needs}
+use Rattle.drawing.proofs.LabelLaws.{joint-none, joint-type, joint-other}
+use Rattle.drawing.proofs.pieces.joint.Statement.{statement}
+use Rattle.drawing.proofs.pieces.joint.Tie as tie
+
+pub joint-spec : {M : Type 1} → statement M
+joint-spec =
+    tie.close
+    (tie.spec
+    (λ c. search (joint-none, needs))
+    (λ c. search needs)
+    (λ c κs. search needs)
+    (λ c. search joint-type)
+    (λ c. search needs)
+    (λ c κs. search needs)
+    (λ c. search joint-other))

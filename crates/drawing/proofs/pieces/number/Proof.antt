@@ -1,0 +1,17 @@
+use borrow.Author.Needs.{needs}
+use Rattle.drawing.proofs.DigitLaws.{sign-there, sign-none, number-stays, number-minus, number-plain}
+use Rattle.drawing.proofs.pieces.number.Statement.{statement}
+use Rattle.drawing.proofs.pieces.number.Tie as tie
+
+pub number-spec : {M : Type 1} → statement M
+number-spec =
+    tie.close
+    (tie.spec
+    (λ c κs. search needs)
+    (λ c. search number-stays)
+    (λ c κs. search needs)
+    (λ c. search needs)
+    (λ c κs. sign-there _ _ (c .before .peek .ensures .0) (c .if2 .taken))
+    (λ c. search number-minus)
+    (λ c κs. (search needs, search sign-none))
+    (λ c. search number-plain))

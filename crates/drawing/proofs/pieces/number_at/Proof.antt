@@ -1,0 +1,16 @@
+use borrow.Author.Needs.{needs}
+use mathlib.Core.Path.{_∙_, ap}
+use Rattle.drawing.proofs.LabelLaws.{numbered}
+use Rattle.drawing.proofs.pieces.number_at.Statement.{statement}
+use Rattle.drawing.proofs.pieces.number_at.Tie as tie
+
+pub number-at-spec : {M : Type 1} → statement M
+number-at-spec =
+    tie.close
+    (tie.spec
+    (λ c κs. search needs)
+    (λ c κs. search needs)
+    (λ c κs. search needs)
+    (λ c κs. search needs)
+    (λ c. search needs)
+    (λ c. (search numbered, cc)))

@@ -1,0 +1,13 @@
+use native.Mathlib.Omega.{arith}
+use borrow.Author.Needs.{needs}
+use Rattle.drawing.proofs.FromLaws.{peek-there, peek-over}
+use Rattle.drawing.proofs.pieces.peek.Statement.{statement}
+use Rattle.drawing.proofs.pieces.peek.Tie as tie
+
+pub peek-spec : {M : Type 1} → statement M
+peek-spec =
+    tie.close
+    (tie.spec
+    (λ c κs. search needs)
+    (λ c. (search peek-there, search needs))
+    (λ c. (search (peek-over, needs), omega arith)))

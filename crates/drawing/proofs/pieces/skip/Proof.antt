@@ -1,0 +1,29 @@
+use mathlib.Core.Path.{_≡_}
+use Prim.Native.Nat.{_-_}
+use lib.ListN.{length}
+use native.Mathlib.Omega.{arith}
+use borrow.Author.Needs.{needs}
+use Rattle.drawing.proofs.FromLaws.{Passing, gap-begins, gap-goes-on, gap-stops, gap-ends}
+use Rattle.drawing.proofs.pieces.skip.Statement.{statement}
+use Rattle.drawing.proofs.pieces.skip.Tie as tie
+
+abbrev Inv-loop : tie.InvT-loop
+Inv-loop text i n j₀ j = Passing text i j
+
+abbrev μ-loop : tie.MeasureT-loop
+μ-loop text i n j₀ j = n - j
+
+pub skip-spec : {M : Type 1} → statement M
+skip-spec =
+    tie.close
+    (tie.spec
+    Inv-loop
+    μ-loop
+    (λ c. search (gap-begins, needs))
+    (λ c κs. search needs)
+    (λ c κs. search needs)
+    (λ c. search gap-stops)
+    (λ c. search needs)
+    (λ c. search needs)
+    (λ c. search gap-goes-on)
+    (λ c. search (gap-ends, needs)))

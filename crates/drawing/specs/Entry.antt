@@ -1,0 +1,74 @@
+-- What `draw` and `undraw` answer and leave, for every table, text and lent bytes (Q-1, "Reading", "Writing").
+use mathlib.Core.Bool.{Bool, _||_}
+use mathlib.Core.List.{List, [], _∷_, _++_}
+use Prim.Native.Nat.{ℕ, _+_, _*_, _/_, _%_, _≤_}
+use lib.ListN.{length, drop}
+use Rattle.fault.specs.declared.Verdict.{Verdict}
+use Rattle.fault.specs.declared.Answer.{Answer}
+use Rattle.fault.specs.Tests.{_below_, _differs_, outside}
+use Rattle.fault.specs.Fault.{verdict, refused, nothingDone, _if_else_}
+use Rattle.table.specs.Refusals.{tableFault}
+use Rattle.dot.specs.Text.{drawingOf}
+use Rattle.dot.specs.Reading.{Read, Outcome, drawn, fault, reading}
+
+-- ---- the table that a text draws
+-- a number of two bytes, the low one first
+abbrev pub twoBytes : ℕ → List ℕ → List ℕ
+twoBytes x w = x % 256 ∷ x / 256 ∷ w
+
+-- distances to the first state and the first rule, states, rules, types, factor
+unfoldable pub trailerOf : ℕ → ℕ → ℕ → ℕ → List ℕ
+trailerOf n m T k = twoBytes (2 * n + m * (2 + 3 * T)) (twoBytes (m * (2 + 3 * T)) (n ∷ m ∷ T ∷ k ∷ []))
+
+-- its records and the trailer
+unfoldable pub tableOf : Read → List ℕ
+tableOf r = r .body ++ trailerOf (r .states) (r .rules) (r .types) (r .factor)
+
+-- 2: a count or k that no table has
+unfoldable pub strange : ℕ → ℕ → ℕ → ℕ → Bool
+strange n m T k = outside 1 16 n || outside 1 64 m || outside 1 4 T || outside 1 8 k
+
+-- counts that are not, and how many bytes the records then have at most
+pub record Fine (n m T k : ℕ) : Type 0 where
+  pub states : n ≤ 16
+  pub rules : m ≤ 64
+  pub types : T ≤ 4
+  pub factor : k ≤ 8
+  pub room : 2 * n + m * (2 + 3 * T) ≤ 928
+
+-- 60 with the place; then 2; then 4 to 8 as for the table
+unfoldable pub drawnFault : Outcome → Verdict
+drawnFault (fault p) = verdict 60 p
+drawnFault (drawn r) = refused 2 if strange (r .states) (r .rules) (r .types) (r .factor) else tableFault (tableOf r)
+
+unfoldable pub drawnTable : Outcome → List ℕ
+drawnTable (fault p) = []
+drawnTable (drawn r) = tableOf r
+
+-- ---- bytes that are given where nothing is refused
+-- the refusal; 61: lent bytes fewer than the bytes needed; or how many were written
+unfoldable pub given : Verdict → List ℕ → ℕ → Answer
+given v w lent =
+    nothingDone v if v .number differs 0 else
+    nothingDone (refused 61) if lent below length w else
+    record { refusal = 0; place = 0; count = length w }
+
+-- a refusal changes no byte; the bytes past those written stay
+unfoldable pub left : Verdict → List ℕ → List ℕ → List ℕ
+left v w out =
+    out if v .number differs 0 else
+    out if length out below length w else
+    w ++ drop (length w) out
+
+-- ---- the two calls
+unfoldable pub drawAnswer : List ℕ → ℕ → Answer
+drawAnswer s lent = given (tableFault s) (drawingOf s) lent
+
+unfoldable pub drawBytes : List ℕ → List ℕ → List ℕ
+drawBytes s out = left (tableFault s) (drawingOf s) out
+
+unfoldable pub undrawAnswer : List ℕ → ℕ → Answer
+undrawAnswer t lent = given (drawnFault (reading t)) (drawnTable (reading t)) lent
+
+unfoldable pub undrawBytes : List ℕ → List ℕ → List ℕ
+undrawBytes t out = left (drawnFault (reading t)) (drawnTable (reading t)) out

@@ -1,0 +1,135 @@
+// Drawings of a table: written from its bytes, and read back to them.
+ghost use mathlib.Core.Path.{_≡_};
+ghost use Prim.Native.Nat.{_/_, _%_, _≤_, _<_};
+ghost use lib.ListN.{length};
+ghost use Rattle.pen.specs.Pen.{stored};
+ghost use Rattle.table.specs.Refusals.{tableFault};
+ghost use Rattle.drawing.specs.Entry.{trailerOf, strange, Fine, given, left, drawAnswer, drawBytes, undrawAnswer, undrawBytes};
+use fault::Answer;
+
+pub mod pieces; // a text read piece by piece
+pub mod lines; // and line by line
+
+// Where reading stands: at which byte, whether no drawing goes on there, and the number read last.
+pub struct Cursor {
+    pub place: usize,
+    pub stuck: bool,
+    pub value: usize,
+}
+
+// What has been read up to the end of a line: its counts, and how many bytes of the table's records.
+pub struct Reader {
+    pub place: usize,
+    pub stuck: bool,
+    pub ended: bool,
+    pub types: usize,
+    pub factor: usize,
+    pub states: usize,
+    pub rules: usize,
+    pub made: usize,
+}
+
+// Writes a table's drawing into the lent bytes: refusal, place, bytes written.
+pub fn draw(table: &[u8], out: &mut [u8]) -> Answer
+    ensures { λ r. ⌜ r ≡ drawAnswer (now (table .entry)) (length (now (out .entry))) ⌝ }
+    ensures { λ r. ⌜ now (out .exit) ≡ drawBytes (now (table .entry)) (now (out .entry)) ⌝ }
+{
+    let v = table::table_fault(table);
+    if v.number != 0 {
+        return fault::answered(v.number, v.place, 0);
+    }
+    // Into no bytes: only to learn how many there are.
+    let n = pen::write(table, &mut out[..0]);
+    if out.len() < n {
+        return fault::answered(61, 0, 0);
+    }
+    pen::write(table, out);
+    fault::answered(0, 0, n)
+}
+
+// Writes the table that a text draws into the lent bytes: refusal, place, bytes written.
+pub fn undraw(text: &[u8], out: &mut [u8]) -> Answer
+    ensures { λ r. ⌜ r ≡ undrawAnswer (now (text .entry)) (length (now (out .entry))) ⌝ }
+    ensures { λ r. ⌜ now (out .exit) ≡ undrawBytes (now (text .entry)) (now (out .entry)) ⌝ }
+{
+    // The most that a table has: 16 states of 2 bytes, 64 rules of 14, a trailer of 8.
+    let mut table = [0u8; 936];
+    undraw_in(text, &mut table, out)
+}
+
+// The same, with room for the largest table.
+fn undraw_in(text: &[u8], table: &mut [u8], out: &mut [u8]) -> Answer
+    requires { ⌜ length (now table) ≡ 936 ⌝ }
+    ensures { λ r. ⌜ r ≡ undrawAnswer (now (text .entry)) (length (now (out .entry))) ⌝ }
+    ensures { λ r. ⌜ now (out .exit) ≡ undrawBytes (now (text .entry)) (now (out .entry)) ⌝ }
+{
+    let g = lines::read(text, table);
+    if g.stuck {
+        return fault::answered(60, g.place, 0);
+    }
+    if counts_off(g) {
+        return fault::answered(2, 0, 0);
+    }
+    close(g, table);
+    let n = g.made + 8;
+    give(&table[..n], out)
+}
+
+// Has it a count that no table has?
+fn counts_off(g: Reader) -> bool
+    ensures { λ r. ⌜ r ≡ strange (g .states) (g .rules) (g .types) (g .factor) ⌝ }
+{
+    fault::outside(1, 16, g.states)
+        | fault::outside(1, 64, g.rules)
+        | fault::outside(1, 4, g.types)
+        | fault::outside(1, 8, g.factor)
+}
+
+// The trailer after the records.
+fn close(g: Reader, table: &mut [u8])
+    requires { ⌜ (Fine (g .states) (g .rules) (g .types) (g .factor)) × (g .made ≤ 928) ⌝ }
+    ensures { λ r. ⌜ now (table .exit) ≡ stored (now (table .entry)) (g .made) (trailerOf (g .states) (g .rules) (g .types) (g .factor)) ⌝ }
+{
+    let rules = fault::times(g.rules, 2 + 3 * g.types);
+    let all = 2 * g.states + rules;
+    let trailer = [
+        low(all),
+        high(all),
+        low(rules),
+        high(rules),
+        low(g.states),
+        low(g.rules),
+        low(g.types),
+        low(g.factor),
+    ];
+    pen::put_all(table, g.made, &trailer);
+}
+
+fn low(x: usize) -> u8
+    ensures { λ r. ⌜ r ≡ x % 256 ⌝ }
+{
+    (x % 256) as u8
+}
+
+fn high(x: usize) -> u8
+    requires { ⌜ x < 65536 ⌝ }
+    ensures { λ r. ⌜ r ≡ x / 256 ⌝ }
+{
+    (x / 256) as u8
+}
+
+// The table into the lent bytes, if it is one and has room there.
+fn give(table: &[u8], out: &mut [u8]) -> Answer
+    ensures { λ r. ⌜ r ≡ given (tableFault (now (table .entry))) (now (table .entry)) (length (now (out .entry))) ⌝ }
+    ensures { λ r. ⌜ now (out .exit) ≡ left (tableFault (now (table .entry))) (now (table .entry)) (now (out .entry)) ⌝ }
+{
+    let v = table::table_fault(table);
+    if v.number != 0 {
+        return fault::answered(v.number, v.place, 0);
+    }
+    if out.len() < table.len() {
+        return fault::answered(61, 0, 0);
+    }
+    pen::put_all(out, 0, table);
+    fault::answered(0, 0, table.len())
+}

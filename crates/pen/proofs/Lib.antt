@@ -1,0 +1,4 @@
+pub mod PenLaws
+pub mod NumberLaws
+pub mod TextLaws
+pub mod PartLaws

@@ -1,0 +1,16 @@
+use native.Mathlib.Omega.{arith}
+use borrow.Author.Needs.{needs}
+use Rattle.pen.proofs.PenLaws.{stored-fits, stored-over}
+use Rattle.pen.proofs.put.Statement.{statement}
+use Rattle.pen.proofs.put.Tie as tie
+
+pub put-spec : {M : Type 1} → statement M
+put-spec =
+    tie.close
+    (tie.spec
+    (λ c. search needs)
+    (λ c. search needs)
+    (λ c. search needs)
+    (λ c. (omega arith, search stored-fits))
+    (λ c. search needs)
+    (λ c. (omega arith, search (stored-over, needs))))

@@ -1,0 +1,28 @@
+use borrow.Author.Needs.{needs}
+use native.Mathlib.Omega.{arith}
+use Rattle.pen.proofs.NumberLaws.{one-digit, two-digits, three-digits}
+use Rattle.pen.proofs.put_decimal.Statement.{statement}
+use Rattle.pen.proofs.put_decimal.Tie as tie
+
+pub put-decimal-spec : {M : Type 1} → statement M
+put-decimal-spec =
+    tie.close
+    (tie.spec
+    (λ c κs. search needs)
+    (λ c κs. search needs)
+    (λ c. search needs)
+    (λ c. (search one-digit, omega arith))
+    (λ c κs. search needs)
+    (λ c κs. search needs)
+    (λ c κs. search needs)
+    (λ c κs. search needs)
+    (λ c. search needs)
+    (λ c. (search two-digits, omega arith))
+    (λ c κs. search needs)
+    (λ c κs. search needs)
+    (λ c κs. search needs)
+    (λ c κs. search needs)
+    (λ c κs. search needs)
+    (λ c κs. search needs)
+    (λ c. search needs)
+    (λ c. (search three-digits, omega arith)))

@@ -1,0 +1,14 @@
+use borrow.Author.Needs.{needs}
+use native.Mathlib.Omega.{arith}
+use Rattle.pen.proofs.PenLaws.{put-then}
+use Rattle.pen.proofs.put_numbered.Statement.{statement}
+use Rattle.pen.proofs.put_numbered.Tie as tie
+
+pub put-numbered-spec : {M : Type 1} → statement M
+put-numbered-spec =
+    tie.close
+    (tie.spec
+    (λ c κs. search needs)
+    (λ c κs. search needs)
+    (λ c. search needs)
+    (λ c. (search put-then, omega arith)))

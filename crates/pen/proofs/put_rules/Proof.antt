@@ -1,0 +1,35 @@
+use mathlib.Core.Path.{_≡_, refl}
+use Prim.Native.Nat.{_+_, _*_, _-_, _≤_}
+use native.Mathlib.Omega.{arith}
+use borrow.Author.Needs.{needs}
+use lib.ListN.{length}
+use Rattle.table.specs.Table.{statesOf, rulesOf, typesOf, ruleAt}
+use Rattle.dot.specs.Text.{rulesText}
+use Rattle.pen.specs.Pen.{alone}
+use Rattle.pen.proofs.PenLaws.{Rest, rest-all}
+use Rattle.pen.proofs.TextLaws.{rules-first}
+use Rattle.pen.proofs.PartLaws.{rules-turn, rules-end}
+use Rattle.pen.proofs.put_rules.Statement.{statement}
+use Rattle.pen.proofs.put_rules.Tie as tie
+
+abbrev Inv-loop : tie.InvT-loop
+Inv-loop out₀ n table rules k₀ m₀ out k m =
+    (k ≤ rules) × (m ≤ n + 97 * k) × (length out ≡ length out₀) × Rest out₀ n (alone (rulesText (rulesOf table) (typesOf table) table (2 * statesOf table))) out m (alone (rulesText (rulesOf table - k) (typesOf table) table (ruleAt table k)))
+
+abbrev μ-loop : tie.MeasureT-loop
+μ-loop out₀ n table rules k₀ m₀ out k m = rules - k
+
+pub put-rules-spec : {M : Type 1} → statement M
+put-rules-spec =
+    tie.close
+    (tie.spec
+    Inv-loop
+    μ-loop
+    (λ c κs. search needs)
+    (λ c. (omega arith, omega arith, refl, rest-all (search rules-first)))
+    (λ c κs. search needs)
+    (λ c. search needs)
+    (λ c. search needs)
+    (λ c. (omega arith, omega arith, search needs, search rules-turn))
+    (λ c. search needs)
+    (λ c. (search rules-end, omega arith)))

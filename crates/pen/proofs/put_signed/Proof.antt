@@ -1,0 +1,18 @@
+use borrow.Author.Needs.{needs}
+use native.Mathlib.Omega.{arith}
+use Rattle.pen.proofs.NumberLaws.{signed-plain, signed-minus}
+use Rattle.pen.proofs.put_signed.Statement.{statement}
+use Rattle.pen.proofs.put_signed.Tie as tie
+
+pub put-signed-spec : {M : Type 1} → statement M
+put-signed-spec =
+    tie.close
+    (tie.spec
+    (λ c κs. search needs)
+    (λ c. search needs)
+    (λ c. (search signed-plain, omega arith))
+    (λ c κs. search needs)
+    (λ c. search needs)
+    (λ c κs. search needs)
+    (λ c. search needs)
+    (λ c. (search signed-minus, omega arith)))

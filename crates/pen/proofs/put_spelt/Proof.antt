@@ -1,0 +1,16 @@
+use borrow.Author.Needs.{needs}
+use native.Mathlib.Omega.{arith}
+use Rattle.pen.proofs.NumberLaws.{spelt-plain, spelt-signed}
+use Rattle.pen.proofs.put_spelt.Statement.{statement}
+use Rattle.pen.proofs.put_spelt.Tie as tie
+
+pub put-spelt-spec : {M : Type 1} → statement M
+put-spelt-spec =
+    tie.close
+    (tie.spec
+    (λ c κs. search needs)
+    (λ c. search needs)
+    (λ c. (search spelt-signed, omega arith))
+    (λ c κs. search needs)
+    (λ c. search needs)
+    (λ c. (search spelt-plain, omega arith)))

@@ -1,0 +1,38 @@
+-- Bytes put one after the other into lent memory, so far as they fit; and the parts of a drawing that are put so.
+use Prim.Native.Nat.{ℕ, _+_}
+use mathlib.Core.Path.{_≡_}
+use mathlib.Core.Bool.{Bool, true, false}
+use mathlib.Core.List.{List, [], _∷_}
+use lib.ListN.{length, set}
+use Rattle.fault.specs.Tests.{_below_}
+use Rattle.fault.specs.Fault.{_if_else_}
+use Rattle.dot.specs.Numbers.{text, decimal, signed}
+use Rattle.dot.specs.Text.{Piece, written, after, aBlank, labelText}
+
+-- a place is below 2^64 - 1, so that the next one never wraps
+abbrev pub places : ℕ
+places = 18446744073709551615
+
+-- out with w put at n
+unfoldable pub stored : List ℕ → ℕ → List ℕ → List ℕ
+stored out n [] = out
+stored out n (b ∷ w) = stored (set out n b if n below length out else out) (n + 1) w
+
+-- w was put at n: r is the place after it, and end is what out has become
+pub record Put (out : List ℕ) (n : ℕ) (w : List ℕ) (r : ℕ) (end : List ℕ) : Type 0 where
+  pub place : r ≡ n + length w
+  pub bytes : end ≡ stored out n w
+
+-- ---- parts of a drawing
+-- a part as it is written with nothing after it
+abbrev pub alone : (List Piece → List Piece) → List ℕ
+alone part = written (part [])
+
+-- a label with its bracket
+abbrev pub labelled : (ℕ → List ℕ) → ℕ → List ℕ → ℕ → List Piece → List Piece
+labelled spell g s at p = after aBlank (text "[") (labelText spell g s at p)
+
+-- how the numbers of a label are written: a rule's may be negative
+abbrev pub spelling : Bool → ℕ → List ℕ
+spelling false = decimal
+spelling true = signed

@@ -1,0 +1,213 @@
+// A table's drawing, written into lent bytes so far as they reach; what does not fit is counted too.
+ghost use mathlib.Core.Path.{_≡_};
+ghost use mathlib.Core.List.{[], _∷_, _++_};
+ghost use Prim.Native.Nat.{_+_, _*_, _≤_, _<_};
+ghost use lib.ListN.{length};
+ghost use Rattle.table.specs.Table.{statesOf, rulesOf, typesOf, factorOf, ruleAt};
+ghost use Rattle.table.specs.Facts.{Sized};
+ghost use Rattle.dot.specs.Numbers.{decimal};
+ghost use Rattle.dot.specs.Numbers as numbers;
+ghost use Rattle.dot.specs.Text.{headText, joint, numbersText, stateText, ruleText, statesText, rulesText, drawingOf};
+ghost use Rattle.pen.specs.Pen.{places, stored, Put, alone, labelled, spelling};
+
+// The drawing of a table that was read, so far as it fits; and how many bytes it has.
+pub fn write(table: &[u8], out: &mut [u8]) -> usize
+    requires { ⌜ Sized (now table) ⌝ }
+    ensures { λ r. ⌜ (r ≡ length (drawingOf (now (table .entry)))) × (r < 16777216) × (now (out .exit) ≡ stored (now (out .entry)) 0 (drawingOf (now (table .entry)))) ⌝ }
+{
+    let n = put_head(out, 0, table);
+    let n = put_states(out, n, table);
+    let n = put_rules(out, n, table);
+    put_all(out, n, b"\n}\n")
+}
+
+// The head at n, up to the line feed before the first state; and the place after it.
+fn put_head(out: &mut [u8], n: usize, table: &[u8]) -> usize
+    requires { ⌜ (n + 25 ≤ places) × Sized (now table) ⌝ }
+    ensures { λ r. ⌜ Put (now (out .entry)) n (alone (headText (typesOf (now (table .entry))) (factorOf (now (table .entry))))) r (now (out .exit)) × (r ≤ n + 25) ⌝ }
+{
+    let n = put_numbered(out, n, b"digraph t {\nT=", table::types(table));
+    let n = put_numbered(out, n, b"; k=", table::factor(table));
+    put_all(out, n, b";")
+}
+
+// The lines of all states at n, at most 16 of 29 bytes; and the place after them.
+fn put_states(out: &mut [u8], n: usize, table: &[u8]) -> usize
+    requires { ⌜ (n + 464 ≤ places) × Sized (now table) ⌝ }
+    ensures { λ r. ⌜ Put (now (out .entry)) n (alone (statesText (statesOf (now (table .entry))) (now (table .entry)) 0)) r (now (out .exit)) × (r ≤ n + 464) ⌝ }
+{
+    let states = table::states(table);
+    let mut i = 0;
+    let mut m = n;
+    while i < states {
+        m = put_state(out, m, table, i);
+        i += 1;
+    }
+    m
+}
+
+// The line of state i at n, and the place after it.
+fn put_state(out: &mut [u8], n: usize, table: &[u8], i: usize) -> usize
+    requires { ⌜ (n + 29 ≤ places) × Sized (now table) × (i < statesOf (now table)) ⌝ }
+    ensures { λ r. ⌜ Put (now (out .entry)) n (alone (stateText (now (table .entry)) i)) r (now (out .exit)) × (r ≤ n + 29) ⌝ }
+{
+    let n = put_numbered(out, n, b"\ns", i);
+    put_label(out, n, table, 2 * i, 2, false)
+}
+
+// The lines of all rules at n, at most 64 of 97 bytes; and the place after them.
+fn put_rules(out: &mut [u8], n: usize, table: &[u8]) -> usize
+    requires { ⌜ (n + 6208 ≤ places) × Sized (now table) ⌝ }
+    ensures { λ r. ⌜ Put (now (out .entry)) n (alone (rulesText (rulesOf (now (table .entry))) (typesOf (now (table .entry))) (now (table .entry)) (2 * statesOf (now (table .entry))))) r (now (out .exit)) × (r ≤ n + 6208) ⌝ }
+{
+    let rules = table::rules(table);
+    let mut k = 0;
+    let mut m = n;
+    while k < rules {
+        m = put_rule(out, m, table, k);
+        k += 1;
+    }
+    m
+}
+
+// The line of rule k at n, and the place after it.
+fn put_rule(out: &mut [u8], n: usize, table: &[u8], k: usize) -> usize
+    requires { ⌜ (n + 97 ≤ places) × Sized (now table) × (k < rulesOf (now table)) ⌝ }
+    ensures { λ r. ⌜ Put (now (out .entry)) n (alone (ruleText (typesOf (now (table .entry))) (now (table .entry)) (ruleAt (now (table .entry)) k))) r (now (out .exit)) × (r ≤ n + 97) ⌝ }
+{
+    let n = put_numbered(out, n, b"\ns", table::from(table, k));
+    let n = put_numbered(out, n, b" -> s", table::to(table, k));
+    let at = table::rule_at(table, k) + 2;
+    put_label(out, n, table, at, 3 * table::types(table), true)
+}
+
+// A label of g numbers at n, which are the table's bytes from `at` on; and the place after it.
+fn put_label(out: &mut [u8], n: usize, table: &[u8], at: usize, g: usize, signed: bool) -> usize
+    requires { ⌜ (n + 6 * g + 12 ≤ places) × (at + g ≤ length (now table)) ⌝ }
+    ensures { λ r. ⌜ Put (now (out .entry)) n (alone (labelled (spelling signed) g (now (table .entry)) at)) r (now (out .exit)) × (r ≤ n + 6 * g + 12) ⌝ }
+{
+    let n = put_all(out, n, b" [label=\"");
+    let n = put_numbers(out, n, table, at, g, signed);
+    put_all(out, n, b"\"];")
+}
+
+// The g numbers of a label at n, from the first on; and the place after them.
+fn put_numbers(out: &mut [u8], n: usize, table: &[u8], at: usize, g: usize, signed: bool) -> usize
+    requires { ⌜ (n + 6 * g ≤ places) × (at + g ≤ length (now table)) ⌝ }
+    ensures { λ r. ⌜ Put (now (out .entry)) n (alone (numbersText (spelling signed) g 0 (now (table .entry)) at)) r (now (out .exit)) × (r ≤ n + 6 * g) ⌝ }
+{
+    let mut left = g;
+    let mut j = 0;
+    let mut m = n;
+    while 0 < left {
+        left -= 1;
+        m = put_number(out, m, j, fault::byte_at(table, at + j), signed);
+        j += 1;
+    }
+    m
+}
+
+// The number j of a label at n, with what joins it to the one before; and the place after it.
+fn put_number(out: &mut [u8], n: usize, j: usize, b: usize, signed: bool) -> usize
+    requires { ⌜ (n + 6 ≤ places) × (b < 256) ⌝ }
+    ensures { λ r. ⌜ Put (now (out .entry)) n (joint j ++ spelling signed b) r (now (out .exit)) × (r ≤ n + 6) ⌝ }
+{
+    let n = put_joint(out, n, j);
+    put_spelt(out, n, b, signed)
+}
+
+// What stands before the number j of a label, at n; and the place after it.
+fn put_joint(out: &mut [u8], n: usize, j: usize) -> usize
+    requires { ⌜ n + 2 ≤ places ⌝ }
+    ensures { λ r. ⌜ Put (now (out .entry)) n (joint j) r (now (out .exit)) × (r ≤ n + 2) ⌝ }
+{
+    if j == 0 {
+        return n;
+    }
+    if j % 3 == 0 {
+        return put_all(out, n, b", ");
+    }
+    put_all(out, n, b" ")
+}
+
+// The number that a byte is in a label, at n; and the place after it.
+fn put_spelt(out: &mut [u8], n: usize, b: usize, signed: bool) -> usize
+    requires { ⌜ (n + 4 ≤ places) × (b < 256) ⌝ }
+    ensures { λ r. ⌜ Put (now (out .entry)) n (spelling signed b) r (now (out .exit)) × (r ≤ n + 4) ⌝ }
+{
+    if signed {
+        return put_signed(out, n, b);
+    }
+    put_decimal(out, n, b)
+}
+
+// A byte as a number from −128 to 127, at n; and the place after it.
+fn put_signed(out: &mut [u8], n: usize, b: usize) -> usize
+    requires { ⌜ (n + 4 ≤ places) × (b < 256) ⌝ }
+    ensures { λ r. ⌜ Put (now (out .entry)) n (numbers.signed b) r (now (out .exit)) × (r ≤ n + 4) ⌝ }
+{
+    if b < 128 {
+        return put_decimal(out, n, b);
+    }
+    let m = put(out, n, b'-');
+    put_decimal(out, m, 256 - b)
+}
+
+// A word at n with a number behind it, and the place after both.
+fn put_numbered(out: &mut [u8], n: usize, word: &[u8], v: usize) -> usize
+    requires { ⌜ (n + length (now word) + 3 ≤ places) × (v < 256) ⌝ }
+    ensures { λ r. ⌜ Put (now (out .entry)) n (now (word .entry) ++ decimal v) r (now (out .exit)) × (r ≤ n + length (now (word .entry)) + 3) ⌝ }
+{
+    let n = put_all(out, n, word);
+    put_decimal(out, n, v)
+}
+
+// A number of up to three digits at n, and the place after it.
+fn put_decimal(out: &mut [u8], n: usize, v: usize) -> usize
+    requires { ⌜ (n + 3 ≤ places) × (v < 256) ⌝ }
+    ensures { λ r. ⌜ Put (now (out .entry)) n (decimal v) r (now (out .exit)) × (r ≤ n + 3) ⌝ }
+{
+    if v < 10 {
+        return put(out, n, digit(v));
+    }
+    if v < 100 {
+        let n = put(out, n, digit(v / 10));
+        return put(out, n, digit(v % 10));
+    }
+    let n = put(out, n, digit(v / 100));
+    let n = put(out, n, digit(v / 10 % 10));
+    put(out, n, digit(v % 10))
+}
+
+fn digit(v: usize) -> u8
+    requires { ⌜ v < 10 ⌝ }
+    ensures { λ r. ⌜ r ≡ 48 + v ⌝ }
+{
+    (48 + v) as u8
+}
+
+// The bytes of a word at n, and the place after them.
+pub fn put_all(out: &mut [u8], n: usize, word: &[u8]) -> usize
+    requires { ⌜ n + length (now word) ≤ places ⌝ }
+    ensures { λ r. ⌜ Put (now (out .entry)) n (now (word .entry)) r (now (out .exit)) ⌝ }
+{
+    let mut i = 0;
+    let mut m = n;
+    while i < word.len() {
+        m = put(out, m, word[i]);
+        i += 1;
+    }
+    m
+}
+
+// The byte b at n, if there is room; and the place after it.
+pub fn put(out: &mut [u8], n: usize, b: u8) -> usize
+    requires { ⌜ n < places ⌝ }
+    ensures { λ r. ⌜ (r ≡ n + 1) × (now (out .exit) ≡ stored (now (out .entry)) n (b ∷ [])) ⌝ }
+{
+    if n < out.len() {
+        out[n] = b;
+        return n + 1;
+    }
+    n + 1
+}
