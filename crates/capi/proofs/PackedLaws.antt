@@ -1,19 +1,24 @@
 -- Every answer fits its bits, and is read back from them.
 use mathlib.Core.Path.{_≡_, refl, sym, ap, _∙_, subst⁻¹}
 use mathlib.Core.List.{List}
-use Prim.Native.Nat.{ℕ, _+_, _*_, _/_, _%_, _^_, _≤_, _<_}
+use Prim.Native.Nat.{ℕ, _+_, _-_, _*_, _/_, _%_, _^_, _≤_, _<_}
 use native.Mathlib.Omega.{arith}
-use borrow.Author.Tests.{ne-eqb}
+use lib.ListN.{length}
+use borrow.Author.Tests.{ne-eqb, ltb-true, lt-ltb}
+use Rattle.fault.specs.Tests.{_below_}
 use Rattle.fault.specs.Fault.{_if_else_}
+use Rattle.fault.proofs.FaultLaws.{if-keeps}
 use Rattle.fault.specs.declared.Answer.{Answer}
 use Rattle.engine.specs.Entry.{runAnswer}
 use Rattle.engine.proofs.BoundLaws.{AnswerWithin, run-answer-within}
 use Rattle.translate.specs.Entry.{translateAnswer}
 use Rattle.translate.proofs.BoundLaws.{translate-answer-within}
+use Rattle.drawing.specs.Entry.{drawAnswer, undrawAnswer}
+use Rattle.drawing.proofs.BoundLaws.{DrawnWithin, draw-within, undraw-within}
 use Rattle.first_step.specs.declared.First.{First}
 use Rattle.first_step.specs.Entry.{firstAnswer}
 use Rattle.first_step.proofs.BoundLaws.{FirstWithin, first-answer-within}
-use Rattle.capi.specs.Packed.{packed, answerIn, Fits, packedFirst, firstIn, FirstFits, NothingLost}
+use Rattle.capi.specs.Packed.{packed, capped, answerIn, Fits, packedFirst, firstIn, FirstFits, NothingLost}
 
 -- ---- read back
 answer-back : (a : Answer) → Fits a → answerIn (packed a) ≡ a
@@ -58,6 +63,22 @@ run-fits b standing lent = within-fits 4096 _ (omega arith) (run-answer-within b
 translate-fits : (b standing : List ℕ) (lent : ℕ) → Fits (translateAnswer b standing lent)
 translate-fits b standing lent = within-fits 17392 _ (omega arith) (translate-answer-within b standing lent)
 
+draw-fits : (s : List ℕ) (lent : ℕ) → Fits (drawAnswer s lent)
+draw-fits s lent = let W = draw-within s lent in record { refusal = omega (arith, W .refusal); place = omega (arith, W .place); count = omega (arith, W .count) }
+
+capped-place : (p : ℕ) → (p if p below 2 ^ 24 else 2 ^ 24 - 1) < 2 ^ 24
+capped-place p = if-keeps (λ (x : ℕ). x < 2 ^ 24) p (p below 2 ^ 24) (2 ^ 24 - 1) (λ e. ltb-true p (2 ^ 24) e) (λ _. omega arith)
+
+undraw-fits : (t : List ℕ) (lent : ℕ) → Fits (capped (undrawAnswer t lent))
+unfolding capped
+undraw-fits t lent =
+    let W = undraw-within t lent in
+    record { refusal = omega (arith, W .refusal); place = capped-place (undrawAnswer t lent .place); count = omega (arith, W .count) }
+
+undraw-whole : (t : List ℕ) (lent : ℕ) → 64 + length t < 2 ^ 24 → capped (undrawAnswer t lent) ≡ undrawAnswer t lent
+unfolding capped _if_else_
+undraw-whole t lent l = let W = undraw-within t lent in rw (lt-ltb (undrawAnswer t lent .place) (2 ^ 24) (omega (arith, W .place)))
+
 within-first : (f : First) → FirstWithin f → FirstFits f
 within-first (First.Refused k p) (a, b, c) = (a, omega arith, omega arith)
 within-first First.Nothing h = tt
@@ -67,7 +88,7 @@ first-fits : (b standing : List ℕ) → FirstFits (firstAnswer b standing)
 first-fits b standing = within-first (firstAnswer b standing) (first-answer-within b standing)
 
 pub nothing-lost : NothingLost
-nothing-lost = record { answer-back = answer-back; first-back = first-back; run-fits = run-fits; translate-fits = translate-fits; first-fits = first-fits }
+nothing-lost = record { answer-back = answer-back; first-back = first-back; run-fits = run-fits; translate-fits = translate-fits; draw-fits = draw-fits; undraw-fits = undraw-fits; undraw-whole = undraw-whole; first-fits = first-fits }
 
 -- ---- the code, from what it has in hand
 pub packed-by : {x : ℕ} {a a′ : Answer} → a ≡ a′ → x ≡ packed a → x ≡ packed a′
@@ -78,6 +99,19 @@ run-fits-by b standing lent e = subst⁻¹ Fits e (run-fits b standing lent)
 
 pub translate-fits-by : {a : Answer} (b standing : List ℕ) (lent : ℕ) → a ≡ translateAnswer b standing lent → Fits a
 translate-fits-by b standing lent e = subst⁻¹ Fits e (translate-fits b standing lent)
+
+pub draw-fits-by : {a : Answer} (s : List ℕ) (lent : ℕ) → a ≡ drawAnswer s lent → Fits a
+draw-fits-by s lent e = subst⁻¹ Fits e (draw-fits s lent)
+
+pub undraw-fits-by : {a c : Answer} (t : List ℕ) (lent : ℕ) → a ≡ undrawAnswer t lent → c ≡ capped a → Fits c
+undraw-fits-by t lent e f = subst⁻¹ Fits (f ∙ ap capped e) (undraw-fits t lent)
+
+pub packed-capped : {x : ℕ} {a a′ c : Answer} → a ≡ a′ → c ≡ capped a → x ≡ packed c → x ≡ packed (capped a′)
+packed-capped e f h = h ∙ ap packed (f ∙ ap capped e)
+
+pub capped-by : {p : ℕ} (a : Answer) → p ≡ (a .place if a .place below 2 ^ 24 else 2 ^ 24 - 1) → record { refusal = a .refusal; place = p; count = a .count } ≡ capped a
+unfolding capped
+capped-by a e = rw e
 
 pub first-fits-by : {f : First} (b standing : List ℕ) → f ≡ firstAnswer b standing → FirstFits f
 first-fits-by b standing e = subst⁻¹ FirstFits e (first-fits b standing)

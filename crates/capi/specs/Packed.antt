@@ -2,19 +2,25 @@
 -- The proof of the last is `nothing-lost` of proofs/PackedLaws.antt.
 use mathlib.Core.Path.{_≡_}
 use mathlib.Core.List.{List}
-use Prim.Native.Nat.{ℕ, _+_, _*_, _/_, _%_, _^_, _≤_, _<_}
+use Prim.Native.Nat.{ℕ, _+_, _-_, _*_, _/_, _%_, _^_, _≤_, _<_}
 use lib.Dec.{eqb}
-use Rattle.fault.specs.Tests.{_differs_}
+use lib.ListN.{length}
+use Rattle.fault.specs.Tests.{_below_, _differs_}
 use Rattle.fault.specs.Fault.{_if_else_}
 use Rattle.fault.specs.declared.Answer.{Answer}
 use Rattle.engine.specs.Entry.{runAnswer}
 use Rattle.translate.specs.Entry.{translateAnswer}
+use Rattle.drawing.specs.Entry.{drawAnswer, undrawAnswer}
 use Rattle.first_step.specs.declared.First.{First}
 use Rattle.first_step.specs.Entry.{firstAnswer}
 
 -- ---- an answer: the refusal in bits 0 to 7, the place in bits 8 to 31, the count in bits 32 to 63
 abbrev pub packed : Answer → ℕ
 packed a = a .refusal + 2 ^ 8 * a .place + 2 ^ 32 * a .count
+
+-- an answer whose place has room: one that has not is given as the largest that has
+unfoldable pub capped : Answer → Answer
+capped a = record { refusal = a .refusal; place = a .place if a .place below 2 ^ 24 else 2 ^ 24 - 1; count = a .count }
 
 -- the answer that stands in these bits
 abbrev pub answerIn : ℕ → Answer
@@ -52,4 +58,8 @@ pub record NothingLost : Type 0 where
   pub first-back : (f : First) → FirstFits f → firstIn (packedFirst f) ≡ f
   pub run-fits : (b standing : List ℕ) (lent : ℕ) → Fits (runAnswer b standing lent)
   pub translate-fits : (b standing : List ℕ) (lent : ℕ) → Fits (translateAnswer b standing lent)
+  pub draw-fits : (s : List ℕ) (lent : ℕ) → Fits (drawAnswer s lent)
+  -- a text under 2^24 bytes has no place that is capped
+  pub undraw-fits : (t : List ℕ) (lent : ℕ) → Fits (capped (undrawAnswer t lent))
+  pub undraw-whole : (t : List ℕ) (lent : ℕ) → 64 + length t < 2 ^ 24 → capped (undrawAnswer t lent) ≡ undrawAnswer t lent
   pub first-fits : (b standing : List ℕ) → FirstFits (firstAnswer b standing)

@@ -1,10 +1,13 @@
 // The library that others link: each exported function is a thin call, its answer packed as the boundary page says.
 ghost use mathlib.Core.Path.{_≡_};
 ghost use lib.ListN.{length};
+ghost use Rattle.fault.specs.Tests.{_below_};
+ghost use Rattle.fault.specs.Fault.{_if_else_};
 ghost use Rattle.engine.specs.Entry.{runAnswer, runWords};
 ghost use Rattle.translate.specs.Entry.{translateAnswer, translateBytes};
+ghost use Rattle.drawing.specs.Entry.{drawAnswer, drawBytes, undrawAnswer, undrawBytes};
 ghost use Rattle.first_step.specs.Entry.{firstAnswer};
-ghost use Rattle.capi.specs.Packed.{packed, Fits, packedFirst, FirstFits};
+ghost use Rattle.capi.specs.Packed.{packed, capped, Fits, packedFirst, FirstFits};
 use fault::Answer;
 use first_step::First;
 
@@ -30,12 +33,51 @@ pub extern "C" fn macaroosh_translate<'a>(
     pack(translate::translate(bundle, standing, out))
 }
 
+// Writes a table's drawing into the lent bytes: refusal, place, bytes written.
+#[no_mangle]
+pub extern "C" fn macaroosh_draw(table: &[u8], out: &mut [u8]) -> u64
+    ensures { λ r. ⌜ r ≡ packed (drawAnswer (now (table .entry)) (length (now (out .entry)))) ⌝ }
+    ensures { λ r. ⌜ now (out .exit) ≡ drawBytes (now (table .entry)) (now (out .entry)) ⌝ }
+{
+    pack(drawing::draw(table, out))
+}
+
+// Writes the table that a text draws into the lent bytes: refusal, place, bytes written.
+#[no_mangle]
+pub extern "C" fn macaroosh_undraw(text: &[u8], out: &mut [u8]) -> u64
+    ensures { λ r. ⌜ r ≡ packed (capped (undrawAnswer (now (text .entry)) (length (now (out .entry))))) ⌝ }
+    ensures { λ r. ⌜ now (out .exit) ≡ undrawBytes (now (text .entry)) (now (out .entry)) ⌝ }
+{
+    pack(cap(drawing::undraw(text, out)))
+}
+
 // The first possible step after a bundle's schedule.
 #[no_mangle]
 pub extern "C" fn macaroosh_first_step<'a>(bundle: &'a [u8], standing: &'a [u8]) -> u64
     ensures { λ r. ⌜ r ≡ packedFirst (firstAnswer (now (bundle .entry)) (now (standing .entry))) ⌝ }
 {
     pack_first(first_step::first_step(bundle, standing))
+}
+
+// A text may have places that take more than 24 bits.
+fn cap(a: Answer) -> Answer
+    ensures { λ r. ⌜ r ≡ capped a ⌝ }
+{
+    Answer {
+        refusal: a.refusal,
+        place: short(a.place),
+        count: a.count,
+    }
+}
+
+// The place, or the largest of 24 bits.
+fn short(place: u64) -> u64
+    ensures { λ r. ⌜ r ≡ (place if place below 16777216 else 16777215) ⌝ }
+{
+    if place < 16777216 {
+        return place;
+    }
+    16777215
 }
 
 // An answer in one number: the refusal lowest, the place from bit 8, the count from bit 32.

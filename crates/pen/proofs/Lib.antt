@@ -1,4 +1,5 @@
 pub mod PenLaws
 pub mod NumberLaws
 pub mod TextLaws
+pub mod LengthLaws
 pub mod PartLaws

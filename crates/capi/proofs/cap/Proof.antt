@@ -1,0 +1,7 @@
+use borrow.Author.Needs.{needs}
+use Rattle.capi.proofs.PackedLaws.{capped-by}
+use Rattle.capi.proofs.cap.Statement.{statement}
+use Rattle.capi.proofs.cap.Tie as tie
+
+pub cap-spec : {M : Type 1} → statement M
+cap-spec = tie.close (tie.spec (λ c κs. search needs) (λ c. search capped-by))

@@ -1,0 +1,12 @@
+use mathlib.Core.Path.{refl}
+use borrow.Author.Tests.{lt-ltb, le-ltb}
+use Rattle.fault.proofs.FaultLaws.{if-yes, if-no}
+use Rattle.capi.proofs.short.Statement.{statement}
+use Rattle.capi.proofs.short.Tie as tie
+
+pub short-spec : {M : Type 1} → statement M
+short-spec =
+    tie.close
+    (tie.spec
+    (λ c. if-yes _ refl refl (lt-ltb _ _ (c .if1 .taken)))
+    (λ c. if-no _ refl (le-ltb _ _ (c .if1 .left)) refl))

@@ -1,0 +1,62 @@
+-- Every answer's numbers are small, whatever the bytes; but a place in a text is only within the text.
+use mathlib.Core.Path.{_≡_, refl}
+use mathlib.Core.List.{List}
+use Prim.Native.Nat.{ℕ, _+_, _≤_}
+use native.Mathlib.Omega.{arith}
+use lib.ListN.{length}
+use Rattle.fault.specs.declared.Verdict.{Verdict}
+use Rattle.fault.specs.declared.Answer.{Answer}
+use Rattle.fault.specs.Tests.{_below_, _differs_}
+use Rattle.fault.specs.Fault.{refused, _if_else_}
+use Rattle.fault.proofs.FaultLaws.{Clean, Within, if-keeps, if-passed, check-within}
+use Rattle.fault.proofs.TestLaws.{same}
+use Rattle.table.specs.Refusals.{tableFault}
+use Rattle.table.proofs.TableLaws.{table-within, table-short}
+use Rattle.dot.specs.Text.{drawingOf}
+use Rattle.dot.specs.Reading.{Outcome, drawn, fault, reading}
+use Rattle.dot.proofs.TokenPlace.{exact-place}
+use Rattle.pen.proofs.LengthLaws.{drawing-short}
+use Rattle.drawing.specs.Entry.{tableOf, strange, drawnFault, drawnTable, given, drawAnswer, undrawAnswer}
+use Rattle.drawing.proofs.EntryLaws.{sized-table}
+
+-- refusals go to 61, places to p, counts to n
+pub record DrawnWithin (p n : ℕ) (a : Answer) : Type 0 where
+  pub refusal : a .refusal ≤ 61
+  pub place : a .place ≤ p
+  pub count : a .count ≤ n
+
+given-within : (p n : ℕ) (v : Verdict) (w : List ℕ) (lent : ℕ) → Within 61 p v → (v .number ≡ 0 → length w ≤ n) → DrawnWithin p n (given v w lent)
+unfolding given
+given-within p n v w lent W l =
+    if-keeps (DrawnWithin p n) _ (v .number differs 0) _
+    (λ _. record { refusal = W .number; place = W .place; count = omega arith })
+    (λ e. if-keeps (DrawnWithin p n) _ (lent below length w) _
+    (λ _. record { refusal = omega arith; place = omega arith; count = omega arith })
+    (λ _. record { refusal = omega arith; place = omega arith; count = l (same _ 0 e) }))
+
+pub draw-within : (s : List ℕ) (lent : ℕ) → DrawnWithin 64 6700 (drawAnswer s lent)
+unfolding drawAnswer
+draw-within s lent =
+    let W = table-within s in
+    given-within 64 6700 (tableFault s) (drawingOf s) lent (record { number = omega (arith, W .number); place = W .place })
+    (λ z. drawing-short s (sized-table s refl z))
+
+-- ---- what a text draws
+module _ (t : List ℕ) where
+  drawn-within : (o : Outcome) → reading t ≡ o → Within 61 (64 + length t) (drawnFault o)
+  unfolding drawnFault
+  drawn-within (fault p) e = record { number = omega arith; place = omega (arith, exact-place t p e .within) }
+  drawn-within (drawn r) e =
+      check-within (strange (r .states) (r .rules) (r .types) (r .factor)) (omega arith)
+      (λ _. let W = table-within (tableOf r) in record { number = omega (arith, W .number); place = omega (arith, W .place) })
+
+  drawn-short : (o : Outcome) → drawnFault o .number ≡ 0 → length (drawnTable o) ≤ 936
+  unfolding drawnFault drawnTable
+  drawn-short (fault p) z = omega arith
+  drawn-short (drawn r) z =
+      let p = if-passed Clean (refused 2) (strange (r .states) (r .rules) (r .types) (r .factor)) (tableFault (tableOf r)) (λ y. omega arith) z in
+      table-short (tableOf r) (sized-table (tableOf r) refl (p .1))
+
+  pub undraw-within : (lent : ℕ) → DrawnWithin (64 + length t) 936 (undrawAnswer t lent)
+  unfolding undrawAnswer
+  undraw-within lent = given-within (64 + length t) 936 (drawnFault (reading t)) (drawnTable (reading t)) lent (drawn-within (reading t) refl) (drawn-short (reading t))
