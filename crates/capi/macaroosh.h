@@ -1,8 +1,8 @@
 /* The proved bench for C programs. Link target/staticlib/libcapi.a, which 'rt staticlib capi' writes, for x86-64 Linux.
  *
  * A bundle is read beside a standing table, which is looked at only where the bundle has no table in front. Any bytes may be
- * given: what is no bundle is refused by number. A pointer is never NULL, also where its length is 0, and lent memory does
- * not overlap what is read. No call keeps a pointer, allocates or reads more than its arguments. */
+ * given: what is no bundle, table or drawing is refused by number. A pointer is never NULL, also where its length is 0, and
+ * lent memory does not overlap what is read. No call keeps a pointer, allocates or reads more than its arguments. */
 #ifndef MACAROOSH_H
 #define MACAROOSH_H
 
@@ -18,6 +18,10 @@ extern "C" {
 
 /* The most bytes that a bundle has. */
 #define MACAROOSH_MOST_BYTES 17392
+
+/* The most bytes that a table part has, and those of its drawing. */
+#define MACAROOSH_MOST_TABLE 936
+#define MACAROOSH_MOST_DRAWING 5773
 
 /* Runs a bundle. With C = n - f boards and T types the configuration is left in the lent words, of which
  * MACAROOSH_MOST_WORDS are always enough (`words_length` counts words, not bytes):
@@ -36,7 +40,26 @@ uint64_t macaroosh_translate(const uint8_t *bundle, size_t bundle_length, const 
 /* The first step that is possible after the whole schedule. Answers a packed step. */
 uint64_t macaroosh_first_step(const uint8_t *bundle, size_t bundle_length, const uint8_t *standing, size_t standing_length);
 
+/* Writes a table part as a drawing, a text in Graphviz's DOT language, to the lent bytes, of which MACAROOSH_MOST_DRAWING are
+ * always enough:
+ *   digraph t {
+ *   T=1; k=3;
+ *   s0 [label="1 0"];          a line for each state: flags, sent mask
+ *   s0 -> s0 [label="0 1 1"];  a line for each rule: a b d of each type, the types joined by ", "
+ *   }
+ * without blanks before a line; one line feed ends each. Answers packed: refusal (1 to 8, 61), place, bytes written. Any
+ * refusal leaves the bytes as they were. Bytes past the written ones never change. */
+uint64_t macaroosh_draw(const uint8_t *table, size_t table_length, uint8_t *out, size_t out_length);
+
+/* Writes the table part that a text draws to the lent bytes, of which MACAROOSH_MOST_TABLE are always enough. Between two
+ * tokens the text may have any spaces, tabs, line feeds and carriage returns. Answers packed: refusal (60, 2, 4 to 8, 61),
+ * place, bytes written. Any refusal leaves the bytes as they were. Bytes past the written ones never change.
+ * The place of 60 is the length of the longest beginning of the text that some drawing begins with: the first byte that is
+ * wrong, or the text's length where the whole text could still go on. From 2^24 - 1 on it is given as that. */
+uint64_t macaroosh_undraw(const uint8_t *text, size_t text_length, uint8_t *out, size_t out_length);
+
 /* Refusals, in the order of the checks; 0 is none. The place counts from 0 what stands in brackets, and is 0 elsewhere.
+ *   60 the text is no drawing [byte] (undraw)
  *   10 bundle under 8 bytes                        11 second distance plus 8 exceeds the bundle
  *    1 table part under 8 bytes                     2 a trailer count or k out of range
  *    3 distances disagree with counts or length     4 a state's flags or sent mask [state]
@@ -46,9 +69,10 @@ uint64_t macaroosh_first_step(const uint8_t *bundle, size_t bundle_length, const
  *   14 a start is not an initial state [board]     30 lent output too short (run, translate)
  *   20 board not below n - f [step]                21 rule not in the table [step]
  *   22 rule does not leave the state [step]        23 type or source out of range [step]
- *   24 message not in transit [step]               25 a threshold is not met [step] */
+ *   24 message not in transit [step]               25 a threshold is not met [step]
+ *   61 lent output too short (draw, undraw) */
 
-/* Packed, of run and translate: the refusal in bits 0 to 7, the place in bits 8 to 31, the count in bits 32 to 63. */
+/* Packed, of all but first_step: the refusal in bits 0 to 7, the place in bits 8 to 31, the count in bits 32 to 63. */
 static inline unsigned macaroosh_refusal(uint64_t packed) { return (unsigned)(packed & 0xFF); }
 static inline uint32_t macaroosh_place(uint64_t packed) { return (uint32_t)(packed >> 8 & 0xFFFFFF); }
 static inline uint32_t macaroosh_count(uint64_t packed) { return (uint32_t)(packed >> 32); }

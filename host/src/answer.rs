@@ -1,6 +1,6 @@
-//! What the three questions answer, whoever is asked: the outline's "Numbers given back".
+//! What the questions answer, whoever is asked: the outline's "Numbers given back".
 
-/// What a run or a translation answers.
+/// What a run, a translation or a drawing answers.
 #[derive(Clone, Copy, Debug, PartialEq, Eq)]
 pub struct Answer {
     /// The refusal's number, or 0.
@@ -28,7 +28,7 @@ impl Answer {
 pub struct Refusal {
     /// The number in the outline's table.
     pub number: u8,
-    /// The state, rule, board or step; 0 where none is named.
+    /// The state, rule, board, step or byte; 0 where none is named.
     pub place: u32,
 }
 
@@ -66,7 +66,7 @@ impl Step {
     }
 }
 
-/// Whoever answers the three questions: the library, the model, or a broken variant of it.
+/// Whoever answers the three questions about a bundle: the library, the model, or a broken variant of it.
 pub trait Bench {
     /// Runs a bundle beside a standing table and leaves the configuration in the lent words.
     fn run(&self, bundle: &[u8], standing: &[u8], words: &mut [u64]) -> Answer;
@@ -76,4 +76,13 @@ pub trait Bench {
 
     /// The first possible step after the whole schedule.
     fn first_step(&self, bundle: &[u8], standing: &[u8]) -> First;
+}
+
+/// Whoever writes tables as drawings and reads those: the library, the model, or a broken variant of it.
+pub trait Draws {
+    /// Writes the drawing of a table part to the lent bytes.
+    fn draw(&self, table: &[u8], out: &mut [u8]) -> Answer;
+
+    /// Writes the table that a text draws to the lent bytes.
+    fn undraw(&self, text: &[u8], out: &mut [u8]) -> Answer;
 }

@@ -1,8 +1,9 @@
-//! Two benches on one bundle: every answer, and every lent word and byte.
+//! Two benches on one bundle, table or drawing: every answer, and every lent word and byte.
 
-use crate::answer::{Answer, Bench};
+use crate::answer::{Answer, Bench, Draws};
 use crate::bundles::Dice;
-use crate::model::read;
+use crate::drawings::{Drawing, Text};
+use crate::model::{read, read_table, Model};
 use std::fmt::Debug;
 
 /// Asks both benches all three questions, with lent memory that is empty, too short by one, exact and long, filled with
@@ -19,13 +20,14 @@ pub fn compare(
     let words = read(bundle, standing).map_or(7, |b| b.start().words().len());
     for length in lengths(words, dice) {
         let lent: Vec<u64> = (0..length).map(|_| dice.junk()).collect();
-        let run = |bench: &dyn Bench, lent: &mut Vec<u64>| bench.run(bundle, standing, lent);
-        refusals.push(same("run", one, other, lent, run)?);
+        let ours = |lent: &mut [u64]| one.run(bundle, standing, lent);
+        let theirs = |lent: &mut [u64]| other.run(bundle, standing, lent);
+        refusals.push(same("run", lent, ours, theirs)?);
     }
     for length in lengths(bundle.len(), dice) {
-        let lent: Vec<u8> = (0..length).map(|_| dice.junk() as u8).collect();
-        let translate = |bench: &dyn Bench, lent: &mut Vec<u8>| bench.translate(bundle, standing, lent);
-        refusals.push(same("translate", one, other, lent, translate)?);
+        let ours = |lent: &mut [u8]| one.translate(bundle, standing, lent);
+        let theirs = |lent: &mut [u8]| other.translate(bundle, standing, lent);
+        refusals.push(same("translate", junk(length, dice), ours, theirs)?);
     }
     let (ours, theirs) = (one.first_step(bundle, standing), other.first_step(bundle, standing));
     if ours != theirs {
@@ -34,20 +36,47 @@ pub fn compare(
     Ok(refusals)
 }
 
+/// The same for the drawing of a table part.
+pub fn compare_draw(one: &dyn Draws, other: &dyn Draws, table: &[u8], dice: &mut Dice) -> Result<Vec<u8>, String> {
+    let mut refusals = Vec::new();
+    let bytes = read_table(table).map_or(7, |table| Model.text(&Drawing::of(&table)).len());
+    for length in lengths(bytes, dice) {
+        let ours = |lent: &mut [u8]| one.draw(table, lent);
+        let theirs = |lent: &mut [u8]| other.draw(table, lent);
+        refusals.push(same("draw", junk(length, dice), ours, theirs)?);
+    }
+    Ok(refusals)
+}
+
+/// The same for the table that a text draws.
+pub fn compare_undraw(one: &dyn Draws, other: &dyn Draws, text: &[u8], dice: &mut Dice) -> Result<Vec<u8>, String> {
+    let mut refusals = Vec::new();
+    let bytes = Model.table(text).map_or(7, |part| part.len());
+    for length in lengths(bytes, dice) {
+        let ours = |lent: &mut [u8]| one.undraw(text, lent);
+        let theirs = |lent: &mut [u8]| other.undraw(text, lent);
+        refusals.push(same("undraw", junk(length, dice), ours, theirs)?);
+    }
+    Ok(refusals)
+}
+
 fn lengths(exact: usize, dice: &mut Dice) -> [usize; 4] {
     [0, exact.saturating_sub(1), exact, exact + dice.between(1, 40)]
 }
 
-// The refusal of a call, where both benches answer it alike and leave the lent memory alike.
+fn junk(length: usize, dice: &mut Dice) -> Vec<u8> {
+    (0..length).map(|_| dice.junk() as u8).collect()
+}
+
+// The refusal of a call, where both answer it alike and leave the lent memory alike.
 fn same<L: Clone + Debug + PartialEq>(
     name: &str,
-    one: &dyn Bench,
-    other: &dyn Bench,
     lent: Vec<L>,
-    call: impl Fn(&dyn Bench, &mut Vec<L>) -> Answer,
+    one: impl Fn(&mut [L]) -> Answer,
+    other: impl Fn(&mut [L]) -> Answer,
 ) -> Result<u8, String> {
     let (mut ours, mut theirs) = (lent.clone(), lent);
-    let answers = (call(one, &mut ours), call(other, &mut theirs));
+    let answers = (one(&mut ours), other(&mut theirs));
     if answers.0 != answers.1 {
         return Err(format!("{name} with {} lent: {:?} against {:?}", ours.len(), answers.0, answers.1));
     }

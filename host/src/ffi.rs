@@ -25,6 +25,8 @@ mod capi {
             standing: *const u8,
             standing_length: usize,
         ) -> u64;
+        pub fn macaroosh_draw(table: *const u8, table_length: usize, out: *mut u8, out_length: usize) -> u64;
+        pub fn macaroosh_undraw(text: *const u8, text_length: usize, out: *mut u8, out_length: usize) -> u64;
     }
 }
 
@@ -62,4 +64,16 @@ pub fn translate(bundle: &[u8], standing: &[u8], out: &mut [u8]) -> u64 {
 pub fn first_step(bundle: &[u8], standing: &[u8]) -> u64 {
     // SAFETY: as above.
     unsafe { capi::macaroosh_first_step(bundle.as_ptr(), bundle.len(), standing.as_ptr(), standing.len()) }
+}
+
+/// The packed answer of a drawing.
+pub fn draw(table: &[u8], out: &mut [u8]) -> u64 {
+    // SAFETY: as above.
+    unsafe { capi::macaroosh_draw(table.as_ptr(), table.len(), out.as_mut_ptr(), out.len()) }
+}
+
+/// The packed answer of a drawing's reading.
+pub fn undraw(text: &[u8], out: &mut [u8]) -> u64 {
+    // SAFETY: as above.
+    unsafe { capi::macaroosh_undraw(text.as_ptr(), text.len(), out.as_mut_ptr(), out.len()) }
 }

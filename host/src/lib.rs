@@ -2,7 +2,7 @@
 //! hand-written fast version that their speed is measured against.
 //!
 //! ```
-//! use macaroosh::{first_step, run, MOST_WORDS, ECHO};
+//! use macaroosh::{draw, first_step, run, undraw, ECHO, MOST_DRAWING, MOST_TABLE, MOST_WORDS};
 //!
 //! // Schedule W of the outline: three correct boards and a faulty one, read beside the echo table.
 //! let w = [
@@ -14,6 +14,13 @@
 //! assert_eq!(words[..7], [2, 2, 3, 0, 0, 0b1011, 0b111]);
 //! let step = first_step(&w, &ECHO).expect("no refusal").expect("a step");
 //! assert_eq!((step.board, step.rule, step.silent()), (0, 4, true));
+//!
+//! // The echo table as a drawing, and back.
+//! let (mut text, mut table) = ([0; MOST_DRAWING], [0; MOST_TABLE]);
+//! let drawn = draw(&ECHO, &mut text).count as usize;
+//! assert!(text[..drawn].starts_with(b"digraph t {\nT=1; k=3;\ns0 [label=\"1 0\"];\n"));
+//! let read = undraw(&text[..drawn], &mut table).count as usize;
+//! assert_eq!(table[..read], ECHO);
 //! ```
 #![deny(unsafe_code)]
 #![warn(missing_docs)]
@@ -22,13 +29,15 @@ pub mod answer;
 pub mod bundles;
 pub mod cases;
 pub mod compare;
+pub mod drawings;
 pub mod fast;
 mod ffi;
 pub mod model;
 pub mod parts;
 pub mod refusals;
+pub mod sketches;
 
-pub use answer::{Answer, Bench, First, Refusal, Step};
+pub use answer::{Answer, Bench, Draws, First, Refusal, Step};
 
 /// The echo table of the outline: the report program's standing table.
 pub const ECHO: [u8; 51] = [
@@ -40,8 +49,15 @@ pub const ECHO: [u8; 51] = [
 /// The most words that a configuration has: 64 states, 64 · 4 pairs of counts, 4 sent counts.
 pub const MOST_WORDS: usize = 64 + 64 * 4 * 2 + 4;
 
-/// The most bytes that a bundle has: 16 states, 64 rules of 14 bytes, 64 starts, 4,096 steps, two trailers.
-pub const MOST_BYTES: usize = 16 * 2 + 64 * 14 + 8 + 64 + 4_096 * 4 + 8;
+/// The most bytes that a table part has: 16 states, 64 rules of 14 bytes, a trailer.
+pub const MOST_TABLE: usize = 16 * 2 + 64 * 14 + 8;
+
+/// The most bytes that a bundle has: a table, 64 starts, 4,096 steps, a trailer.
+pub const MOST_BYTES: usize = MOST_TABLE + 64 + 4_096 * 4 + 8;
+
+/// The most bytes that a drawing has as it is written: two lines of 12 and 10 bytes, ten states of 19 and six of 20 (one is
+/// initial and has a shorter mask), 64 rules of 85, and the last line.
+pub const MOST_DRAWING: usize = 12 + 10 + 10 * 19 + 6 * 20 - 1 + 64 * 85 + 2;
 
 /// Runs a bundle beside a standing table; the configuration is left in the lent words, of which `MOST_WORDS` are enough.
 pub fn run(bundle: &[u8], standing: &[u8], words: &mut [u64]) -> Answer {
@@ -63,12 +79,22 @@ pub fn first_step(bundle: &[u8], standing: &[u8]) -> First {
     Ok(if given & 1 == 1 { Some(Step { board, rule, kind, source }) } else { None })
 }
 
+/// Writes a table part as a drawing in Graphviz's DOT language; `MOST_DRAWING` bytes are enough.
+pub fn draw(table: &[u8], out: &mut [u8]) -> Answer {
+    unpacked(ffi::draw(table, out))
+}
+
+/// Writes the table part that a text draws; `MOST_TABLE` bytes are enough.
+pub fn undraw(text: &[u8], out: &mut [u8]) -> Answer {
+    unpacked(ffi::undraw(text, out))
+}
+
 // The refusal in bits 0 to 7, the place in bits 8 to 31, the count in bits 32 to 63.
 fn unpacked(packed: u64) -> Answer {
     Answer { refusal: packed as u8, place: packed as u32 >> 8, count: (packed >> 32) as u32 }
 }
 
-/// The proved library as one of the benches that are compared.
+/// The proved library as one of those that are compared.
 pub struct Library;
 
 impl Bench for Library {
@@ -82,5 +108,15 @@ impl Bench for Library {
 
     fn first_step(&self, bundle: &[u8], standing: &[u8]) -> First {
         first_step(bundle, standing)
+    }
+}
+
+impl Draws for Library {
+    fn draw(&self, table: &[u8], out: &mut [u8]) -> Answer {
+        draw(table, out)
+    }
+
+    fn undraw(&self, text: &[u8], out: &mut [u8]) -> Answer {
+        undraw(text, out)
     }
 }

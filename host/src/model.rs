@@ -58,7 +58,8 @@ pub struct Bundle {
     pub steps: Vec<Step>,
 }
 
-fn refused(number: u8, place: usize) -> Refusal {
+/// A refusal at a place.
+pub(crate) fn refused(number: u8, place: usize) -> Refusal {
     Refusal { number, place: place as u32 }
 }
 
@@ -428,8 +429,8 @@ impl<O: Outline> Bench for O {
     }
 }
 
-// A refusal that leaves lent memory unchanged and counts 0.
-fn nothing_done(refusal: Refusal) -> Answer {
+/// A refusal that leaves lent memory unchanged and counts 0.
+pub(crate) fn nothing_done(refusal: Refusal) -> Answer {
     Answer { refusal: refusal.number, place: refusal.place, count: 0 }
 }
 

@@ -1,4 +1,4 @@
-//! The outline's table of refusals in words.
+//! The outline's table of refusals in words, with those of drawings.
 
 use crate::answer::Refusal;
 
@@ -15,9 +15,11 @@ pub enum Place {
     Board,
     /// A step of the schedule.
     Step,
+    /// A byte of a drawing's text.
+    Byte,
 }
 
-/// A line of the outline's table.
+/// A line of the table.
 #[derive(Debug)]
 pub struct Line {
     /// The refusal's number.
@@ -33,15 +35,16 @@ const fn line(number: u8, place: Place, when: &'static str) -> Line {
 }
 
 /// Every refusal, in the order of the checks.
-pub const ALL: [Line; 21] = [
+pub const ALL: [Line; 23] = [
     line(40, Place::None, "the input is over 17,392 bytes (report program only)"),
     line(10, Place::None, "the bundle is under 8 bytes"),
     line(11, Place::None, "the schedule's second distance plus 8 exceeds the bundle"),
+    line(60, Place::Byte, "the text is no drawing; up to there it could be one"),
     line(1, Place::None, "the table part is under 8 bytes"),
     line(
         2,
         Place::None,
-        "a count in the table's trailer (1 to 16 states, 1 to 64 rules, 1 to 4 types) or k (1 to 8) is out of range",
+        "a count of the table (1 to 16 states, 1 to 64 rules, 1 to 4 types) or k (1 to 8) is out of range",
     ),
     line(3, Place::None, "the table's distances disagree with its counts or its length"),
     line(
@@ -61,6 +64,7 @@ pub const ALL: [Line; 21] = [
     ),
     line(14, Place::Board, "the board's start is not an initial state"),
     line(30, Place::None, "the lent output is shorter than what is needed"),
+    line(61, Place::None, "the lent output is shorter than the drawing or its table"),
     line(20, Place::Step, "the board is not below n - f"),
     line(21, Place::Step, "the rule is not in the table"),
     line(22, Place::Step, "the rule does not leave the board's state"),
@@ -85,5 +89,6 @@ pub fn told(refusal: Refusal) -> String {
         Place::Rule => format!("refused {number} at rule {place}: {when}"),
         Place::Board => format!("refused {number} at board {place}: {when}"),
         Place::Step => format!("refused {number} at step {place}: {when}"),
+        Place::Byte => format!("refused {number} at byte {place}: {when}"),
     }
 }

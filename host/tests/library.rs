@@ -26,8 +26,8 @@ fn agrees_on_seeds(bench: &(dyn Bench + Sync)) {
         *seen.entry(number).or_default() += 1;
     }
     println!("{seeds} bundles, calls by refusal: {seen:?}");
-    // 40 is the report program's own.
-    for line in refusals::ALL.iter().filter(|line| line.number != 40) {
+    // 40 is the report program's own, 60 and 61 are of drawings.
+    for line in refusals::ALL.iter().filter(|line| line.number < 40) {
         assert!(seen.contains_key(&line.number), "no bundle was refused with {}: {seen:?}", line.number);
     }
     assert!(seen.contains_key(&0), "no bundle was accepted: {seen:?}");
