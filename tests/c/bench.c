@@ -1,5 +1,5 @@
-/* The header from C: schedule W is run, translated there and back, and asked for its first step; refusals leave lent memory
- * alone. The last line is 'N passed, M failed'. */
+/* The header from C: schedule W is run, translated there and back, and asked for its first step; the echo table is drawn and
+ * read back; refusals leave lent memory alone. The last line is 'N passed, M failed'. */
 #include "macaroosh.h"
 
 #include <stdio.h>
@@ -18,6 +18,22 @@ static const uint8_t counting[] = {
     0x01, 0x01, 0x01, 0x00, 0x03, 0xFF, 0xFF, 0x01, 0x03, 0xFF, 0xFF, 0x02, 0x03, 0x00, 0x00, 0x02,
     0x04, 0x00, 0x01, 0x02, 0x05, 0x00, 0x00, 0x14, 0x00, 0x17, 0x00, 0x04, 0x01, 0x01, 0x01,
 };
+
+static const char drawing[] =
+    "digraph t {\n"
+    "T=1; k=3;\n"
+    "s0 [label=\"1 0\"];\n"
+    "s1 [label=\"1 0\"];\n"
+    "s2 [label=\"0 1\"];\n"
+    "s3 [label=\"2 1\"];\n"
+    "s0 -> s0 [label=\"0 0 0\"];\n"
+    "s0 -> s2 [label=\"0 1 1\"];\n"
+    "s0 -> s3 [label=\"1 -1 0\"];\n"
+    "s1 -> s2 [label=\"0 0 0\"];\n"
+    "s2 -> s2 [label=\"0 0 0\"];\n"
+    "s2 -> s3 [label=\"1 -1 0\"];\n"
+    "s3 -> s3 [label=\"0 0 0\"];\n"
+    "}\n";
 
 static int passed, failed;
 
@@ -62,6 +78,38 @@ static void first_steps(void) {
                                    macaroosh_step_type(step) == 255 && macaroosh_step_source(step) == 255);
 }
 
+/* Whether so many bytes are all the same. */
+static int all(const uint8_t *bytes, size_t length, uint8_t byte) {
+    size_t i;
+    for (i = 0; i < length; i++) {
+        if (bytes[i] != byte) return 0;
+    }
+    return 1;
+}
+
+static void drawings(void) {
+    const size_t length = sizeof drawing - 1;
+    uint8_t text[MACAROOSH_MOST_DRAWING], table[MACAROOSH_MOST_TABLE];
+    memset(text, 0xAA, sizeof text);
+    memset(table, 0xAA, sizeof table);
+    check("279 bytes are too few for the drawing", answers(macaroosh_draw(echo, sizeof echo, text, 279), 61, 0, 0));
+    check("without its last byte it is no table", answers(macaroosh_draw(echo, sizeof echo - 1, text, sizeof text), 2, 0, 0));
+    check("no table is drawn", answers(macaroosh_draw(echo, 0, text, sizeof text), 1, 0, 0));
+    check("the text stays", all(text, sizeof text, 0xAA));
+    check("the echo table is drawn", answers(macaroosh_draw(echo, sizeof echo, text, sizeof text), 0, 0, 280));
+    check("to the byte, and none past it",
+          memcmp(text, drawing, length) == 0 && all(text + length, sizeof text - length, 0xAA));
+    check("50 bytes are too few for the table", answers(macaroosh_undraw(text, length, table, 50), 61, 0, 0));
+    check("the text ends too early", answers(macaroosh_undraw(text, 100, table, sizeof table), 60, 100, 0));
+    text[20] = '=';
+    check("a byte is wrong", answers(macaroosh_undraw(text, length, table, sizeof table), 60, 20, 0));
+    text[20] = ';';
+    check("the table stays", all(table, sizeof table, 0xAA));
+    check("the drawing is read back", answers(macaroosh_undraw(text, length, table, sizeof table), 0, 0, 51));
+    check("to the same bytes, and none past them",
+          memcmp(table, echo, sizeof echo) == 0 && all(table + sizeof echo, sizeof table - sizeof echo, 0xAA));
+}
+
 static void refusals(void) {
     uint8_t twice[sizeof w], out[sizeof w], as_it_was[sizeof w];
     uint64_t words[7] = {9, 9, 9, 9, 9, 9, 9};
@@ -88,6 +136,7 @@ int main(void) {
     runs();
     translations();
     first_steps();
+    drawings();
     refusals();
     printf("%d passed, %d failed\n", passed, failed);
     return failed != 0;

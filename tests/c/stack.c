@@ -1,5 +1,6 @@
 /* The deepest stack of each exported call, its return address included: each is called on a painted stack of its own, on
- * schedule W in both forms, and the lowest byte that lost its paint is looked up. Prints 'NAME BYTES'. */
+ * schedule W in both forms or the echo table and its drawing, and the lowest byte that lost its paint is looked up. Prints
+ * 'NAME BYTES'. */
 #define _XOPEN_SOURCE 600
 #include "macaroosh.h"
 
@@ -25,7 +26,8 @@ static const uint8_t forms[2][31] = {
     },
 };
 
-static uint8_t stack[1 << 16], out[31];
+static uint8_t stack[1 << 16], out[31], text[MACAROOSH_MOST_DRAWING], table[MACAROOSH_MOST_TABLE];
+static size_t text_length;
 static uint64_t words[MACAROOSH_MOST_WORDS];
 static const uint8_t *w;
 static ucontext_t here, there;
@@ -40,6 +42,8 @@ static void nothing(void) { answer = least(); }
 static void run(void) { answer = macaroosh_run(w, 31, echo, sizeof echo, words, MACAROOSH_MOST_WORDS); }
 static void translate(void) { answer = macaroosh_translate(w, 31, echo, sizeof echo, out, sizeof out); }
 static void first_step(void) { answer = macaroosh_first_step(w, 31, echo, sizeof echo); }
+static void draw(void) { answer = macaroosh_draw(echo, sizeof echo, text, sizeof text); }
+static void undraw(void) { answer = macaroosh_undraw(text, text_length, table, sizeof table); }
 
 /* How many bytes of the painted stack a call took. */
 static size_t taken(void (*call)(void)) {
@@ -70,5 +74,8 @@ int main(void) {
     measure("macaroosh_run", run);
     measure("macaroosh_translate", translate);
     measure("macaroosh_first_step", first_step);
+    measure("macaroosh_draw", draw);
+    text_length = macaroosh_count(answer);
+    measure("macaroosh_undraw", undraw);
     return 0;
 }
