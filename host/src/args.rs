@@ -14,13 +14,13 @@ pub enum Asked {
     Answer(Request),
 }
 
-/// One question about one bundle.
+/// One question about one bundle, table or drawing.
 #[derive(Debug)]
 pub struct Request {
     /// The question.
     pub command: Command,
-    /// Where the bundle is read.
-    pub bundle: Input,
+    /// Where the bundle, table or drawing is read.
+    pub input: Input,
     /// Where the standing table is read, if it is not the echo table.
     pub standing: Option<Input>,
     /// Where the output is written, if not to standard output (`-`).
@@ -40,6 +40,30 @@ pub enum Command {
     First,
     /// Each step.
     Trace,
+    /// The drawing of a table, or an image of it.
+    Draw(Option<Image>),
+    /// The table of a drawing.
+    Undraw,
+}
+
+impl Command {
+    /// What its input is.
+    pub fn reads(self) -> &'static str {
+        match self {
+            Command::Draw(_) => "table",
+            Command::Undraw => "drawing",
+            _ => "bundle",
+        }
+    }
+}
+
+/// What Graphviz makes of a drawing.
+#[derive(Clone, Copy, Debug, PartialEq, Eq)]
+pub enum Image {
+    /// Lines and letters, for browsers and pages.
+    Svg,
+    /// Dots.
+    Png,
 }
 
 /// Standard input (`-`) or a file.
@@ -65,10 +89,14 @@ impl Input {
     }
 }
 
+const COMMANDS: &str = "run, trace, first, translate, draw, undraw";
+const OPTIONS: &str = "--standing, -o, --svg, --png, --plain, --help";
+
 /// Reads the words, or says what is wrong with them. Options may stand anywhere; after `--` there are none.
 pub fn parse(mut words: impl Iterator<Item = OsString>) -> Result<Asked, String> {
     let mut free: Vec<OsString> = Vec::new();
-    let (mut standing, mut output, mut plain, mut options_end, mut any) = (None, None, false, false, false);
+    let (mut standing, mut output, mut image) = (None, None, None);
+    let (mut plain, mut options_end, mut any) = (false, false, false);
     while let Some(word) = words.next() {
         any = true;
         // A word that is no text is no option, so it is taken as it is.
@@ -79,9 +107,9 @@ pub fn parse(mut words: impl Iterator<Item = OsString>) -> Result<Asked, String>
             "--plain" => plain = true,
             "--standing" => once(&mut standing, Input::of(value(&mut words, "--standing")?), "--standing")?,
             "-o" => once(&mut output, value(&mut words, "-o")?, "-o")?,
-            text => {
-                return Err(format!("there is no option '{text}'; the options are --standing, -o, --plain, --help"))
-            }
+            "--svg" => once(&mut image, Image::Svg, "--svg or --png")?,
+            "--png" => once(&mut image, Image::Png, "--svg or --png")?,
+            text => return Err(format!("there is no option '{text}'; the options are {OPTIONS}")),
         }
     }
     if !any {
@@ -89,31 +117,41 @@ pub fn parse(mut words: impl Iterator<Item = OsString>) -> Result<Asked, String>
     }
     let mut free = free.into_iter();
     let command = match free.next() {
-        None => return Err("which command: run, trace, first or translate?".to_string()),
+        None => return Err("which command: run, trace, first, translate, draw or undraw?".to_string()),
         Some(word) if word == "help" => return Ok(Asked::Help),
-        Some(word) => command(&word)?,
+        Some(word) => command(&word, image)?,
     };
-    let bundle = Input::of(free.next().ok_or("which bundle? Name a file, or '-' for standard input")?);
+    let what = command.reads();
+    let input = Input::of(free.next().ok_or(format!("which {what}? Name a file, or '-' for standard input"))?);
     if let Some(word) = free.next() {
-        return Err(format!("one bundle at a time: '{}' is one word too many", word.to_string_lossy()));
+        return Err(format!("one {what} at a time: '{}' is one word too many", word.to_string_lossy()));
     }
-    if bundle.is_standard() && standing.as_ref().map_or(false, Input::is_standard) {
+    if what != "bundle" && standing.is_some() {
+        return Err(format!("--standing is for bundles; this command reads a {what} alone"));
+    }
+    if input.is_standard() && standing.as_ref().map_or(false, Input::is_standard) {
         return Err("only one of bundle and standing table can come from standard input".to_string());
     }
     let output = output.filter(|word| word != "-").map(PathBuf::from);
-    Ok(Asked::Answer(Request { command, bundle, standing, output, plain }))
+    Ok(Asked::Answer(Request { command, input, standing, output, plain }))
 }
 
-fn command(word: &OsStr) -> Result<Command, String> {
-    match word.to_str() {
-        Some("run") => Ok(Command::Run),
-        Some("translate") => Ok(Command::Translate),
-        Some("first") => Ok(Command::First),
-        Some("trace") => Ok(Command::Trace),
-        _ => Err(format!(
-            "there is no command '{}'; the commands are run, trace, first, translate",
-            word.to_string_lossy()
-        )),
+fn command(word: &OsStr, image: Option<Image>) -> Result<Command, String> {
+    let command = match word.to_str() {
+        Some("run") => Command::Run,
+        Some("translate") => Command::Translate,
+        Some("first") => Command::First,
+        Some("trace") => Command::Trace,
+        Some("draw") => return Ok(Command::Draw(image)),
+        Some("undraw") => Command::Undraw,
+        _ => {
+            let word = word.to_string_lossy();
+            return Err(format!("there is no command '{word}'; the commands are {COMMANDS}"));
+        }
+    };
+    match image {
+        None => Ok(command),
+        Some(_) => Err("--svg and --png are for draw alone".to_string()),
     }
 }
 

@@ -1,23 +1,22 @@
 //! Reading inputs up to a limit, and writing an output whole or not at all.
 
 use crate::args::Input;
-use macaroosh::MOST_BYTES;
 use std::fs::{self, File, OpenOptions};
 use std::io::{self, ErrorKind, Read, Write};
 use std::path::{Path, PathBuf};
 
-// No bundle or table comes near it; a larger file is the wrong one.
+// No bundle, table or drawing comes near it; a larger file is the wrong one.
 const LIMIT: u64 = 1 << 20;
 
-/// The bytes of an input, or what is wrong with it.
-pub fn read(input: &Input) -> Result<Vec<u8>, String> {
+/// The bytes of an input, or what is wrong with it; `most` says how long such an input can be.
+pub fn read(input: &Input, most: &str) -> Result<Vec<u8>, String> {
     let (name, bytes) = match input {
         Input::Standard => ("standard input".to_string(), read_some(io::stdin().lock())),
         Input::File(path) => (quoted(path), File::open(path).and_then(read_some)),
     };
     let bytes = bytes.map_err(|error| format!("macaroosh: cannot read {name}: {error}\n"))?;
     if bytes.len() as u64 > LIMIT {
-        return Err(format!("macaroosh: {name} is over {LIMIT} bytes; a bundle has at most {MOST_BYTES}\n"));
+        return Err(format!("macaroosh: {name} is over {LIMIT} bytes; {most}\n"));
     }
     Ok(bytes)
 }

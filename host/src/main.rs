@@ -1,15 +1,17 @@
-//! The program at the bench: run, translate, first, trace. Exit status 0 answered, 1 refused, 2 bad use.
+//! The program at the bench: run, translate, first, trace; draw, undraw. Exit status 0 answered, 1 refused, 2 bad use.
 #![forbid(unsafe_code)]
 
 mod args;
+mod draw;
 mod files;
+mod graphviz;
 mod replies;
 mod show;
 mod trace;
 
 use args::{Asked, Command, Request};
-use macaroosh::ECHO;
-use replies::Question;
+use macaroosh::{ECHO, MOST_BYTES, MOST_DRAWING, MOST_TABLE};
+use replies::{Question, Reply};
 use std::io::Write;
 use std::process::ExitCode;
 
@@ -22,19 +24,26 @@ Macaroosh runs a schedule of steps against a threshold table.
   macaroosh first FILE       name the first step that is possible after it
   macaroosh translate FILE   write the bundle in the other form, message or
                              counting
+  macaroosh draw TABLE       write the table as a drawing, in Graphviz's DOT
+                             language
+  macaroosh undraw DRAWING   write the table of a drawing, also of an edited
+                             one
 
-FILE is a bundle: a table, then a schedule; '-' is standard input. A bundle
-without a table is read beside the standing table.
+FILE is a bundle: a table, then a schedule. A bundle without a table is read
+beside the standing table. TABLE is a table alone, without a schedule. For
+each of the three '-' is standard input.
 
   --standing FILE   the standing table; without this option the echo table
+  --svg, --png      draw an image of the table; needs Graphviz's program dot
   -o FILE           write the output there; a file of that name stays as it
                     was until the new one is whole
   --plain           the same answer in numbers, for programs
   --help            this page
 
-Exit status: 0 answered; 1 the bundle is refused, and its number, place and
+Exit status: 0 answered; 1 the input is refused, and its number, place and
 reason are on standard error; 2 bad use.
 Try: macaroosh trace examples/w.bundle
+     macaroosh draw examples/echo.table
 ";
 
 fn main() -> ExitCode {
@@ -52,23 +61,33 @@ fn main() -> ExitCode {
 
 // Answers a request: its exit status, or what is wrong with its files.
 fn answer(request: &Request) -> Result<u8, String> {
-    let bundle = files::read(&request.bundle)?;
-    let standing = match &request.standing {
-        Some(input) => files::read(input)?,
-        None => ECHO.to_vec(),
-    };
-    let question = Question { bundle: &bundle, standing: &standing, plain: request.plain };
-    let reply = match request.command {
-        Command::Run => replies::run(&question),
-        Command::Translate => replies::translate(&question, request.output.as_deref()),
-        Command::First => replies::first(&question),
-        Command::Trace => trace::reply(&question),
-    };
+    let reply = reply(request)?;
     files::write(request.output.as_deref(), &reply.output)?;
     if let Some(told) = reply.told {
         tell(&told);
     }
     Ok(u8::from(reply.refused))
+}
+
+fn reply(request: &Request) -> Result<Reply, String> {
+    let path = request.output.as_deref();
+    let table = |input| files::read(input, &format!("a table has at most {MOST_TABLE}"));
+    let ask = |answered: &dyn Fn(&Question) -> Reply| {
+        let bundle = files::read(&request.input, &format!("a bundle has at most {MOST_BYTES}"))?;
+        let standing = request.standing.as_ref().map_or(Ok(ECHO.to_vec()), table)?;
+        Ok(answered(&Question { bundle: &bundle, standing: &standing, plain: request.plain }))
+    };
+    match request.command {
+        Command::Run => ask(&replies::run),
+        Command::Translate => ask(&|question| replies::translate(question, path)),
+        Command::First => ask(&replies::first),
+        Command::Trace => ask(&trace::reply),
+        Command::Draw(image) => draw::draw(&table(&request.input)?, image, path, request.plain),
+        Command::Undraw => {
+            let most = format!("a drawing without blanks of its own has at most {MOST_DRAWING}");
+            Ok(draw::undraw(&files::read(&request.input, &most)?, path, request.plain))
+        }
+    }
 }
 
 // To standard error; if that is closed there is nobody to tell.

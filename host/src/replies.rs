@@ -1,4 +1,4 @@
-//! What each command has to say; `trace` has a file of its own.
+//! What each command has to say about a bundle; `trace` has a file of its own.
 
 use crate::show;
 use macaroosh::parts::Parts;
@@ -22,7 +22,7 @@ pub struct Reply {
     pub output: Vec<u8>,
     /// For standard error, once the output is written.
     pub told: Option<String>,
-    /// Whether the bundle was refused.
+    /// Whether the input was refused.
     pub refused: bool,
 }
 
@@ -75,8 +75,7 @@ pub fn translate(question: &Question, path: Option<&Path>) -> Reply {
         Some(refusal) => question.told(refusal),
         None => {
             let form = if output.last() == Some(&1) { "counting" } else { "message" };
-            let to = path.map_or(String::new(), |path| format!(" to {}", path.display()));
-            format!("wrote {} in {form} form{to}\n", show::counted(output.len(), "byte"))
+            format!("wrote {} in {form} form{}\n", show::counted(output.len(), "byte"), show::to(path))
         }
     };
     Reply { output, told: Some(told), refused: answer.refused().is_some() }

@@ -2,6 +2,7 @@
 
 use macaroosh::parts::{Parts, Picture};
 use macaroosh::{Answer, First, Refusal, Step};
+use std::path::Path;
 
 /// The report program's first line.
 pub fn result(answer: Answer) -> String {
@@ -112,6 +113,11 @@ pub fn state(parts: &Parts, number: u64) -> String {
 /// A board's counts of one type.
 pub fn sum((correct, faulty): (u32, u32)) -> String {
     format!("{correct}+{faulty}")
+}
+
+/// Where an output went, if it is a file.
+pub fn to(path: Option<&Path>) -> String {
+    path.map_or(String::new(), |path| format!(" to {}", path.display()))
 }
 
 /// A number of things: `1 step`, `5 steps`.

@@ -1,8 +1,9 @@
 //! The program: its commands, its refusals in words, mistakes of its user, and what becomes of files.
 
 use macaroosh::bundles::{any, Dice};
-use macaroosh::model::report;
-use macaroosh::MOST_BYTES;
+use macaroosh::drawings::Text;
+use macaroosh::model::{read_table, report, Model};
+use macaroosh::{sketches, MOST_BYTES};
 use std::ffi::OsStr;
 use std::fs::{self, File};
 use std::io::{Read, Write};
@@ -199,6 +200,183 @@ fn translate_writes_the_other_form() {
 }
 
 #[test]
+fn draw_writes_the_drawing_and_undraw_the_table() {
+    let room = room("draw");
+    let bytes = |name: &str| fs::read(example(name)).expect("an example");
+    for (command, from, to, thing) in
+        [("draw", "echo.table", "echo.dot", "drawing"), ("undraw", "echo.dot", "echo.table", "table")]
+    {
+        let (output, length) = (bytes(to), bytes(to).len());
+        let got = asked(&[OsStr::new(command), example(from).as_os_str()]);
+        assert_eq!((got.status.code(), &got.stdout), (Some(0), &output));
+        assert_eq!(text(&got.stderr), format!("wrote {length} bytes: a {thing} of 4 states and 7 rules\n"));
+        let out = room.join(to);
+        let got = asked(&[OsStr::new(command), example(from).as_os_str(), OsStr::new("-o"), out.as_os_str()]);
+        assert_eq!((got.status.code(), text(&got.stdout)), (Some(0), ""));
+        let told = format!("wrote {length} bytes to {}: a {thing} of 4 states and 7 rules\n", out.display());
+        assert_eq!(text(&got.stderr), told);
+        assert_eq!(fs::read(&out).expect("the output"), output);
+        let got = asked_with_input(&[command, "--plain", "-"], &bytes(from));
+        assert_eq!((text(&got.stderr), &got.stdout), (&*format!("result 0 0 {length}\n"), &output));
+    }
+    assert_eq!(fs::read_dir(&room).expect("the folder").count(), 2);
+}
+
+// The echo table's drawing, edited; what is told of it, and for programs.
+#[track_caller]
+fn undraw_says(from: &str, to: &str, told: &str, plain: &str) {
+    let drawing = fs::read_to_string(example("echo.dot")).expect("an example");
+    assert!(drawing.contains(from));
+    let edited = drawing.replacen(from, to, 1);
+    let got = asked_with_input(&["undraw", "-"], edited.as_bytes());
+    assert_eq!((got.status.code(), text(&got.stdout), text(&got.stderr)), (Some(1), "", told));
+    let got = asked_with_input(&["undraw", "-", "--plain"], edited.as_bytes());
+    assert_eq!((got.status.code(), text(&got.stdout), text(&got.stderr)), (Some(1), "", plain));
+}
+
+#[test]
+fn a_refused_drawing_is_marked() {
+    let told = "\
+refused 60 at byte 20: the text is no drawing; up to there it could be one
+line 2, column 9:
+T=1; k=03;
+        ^
+";
+    undraw_says("k=3", "k=03", told, "result 60 20 0\n");
+    let told = "\
+refused 60 at byte 166: the text is no drawing; up to there it could be one
+line 9, column 21:
+s0 -> s3 [label=\"1 -0 0\"];
+                    ^
+";
+    undraw_says("1 -1 0", "1 -0 0", told, "result 60 166 0\n");
+    // Each byte has a column, also where it can't be shown.
+    let told = "\
+refused 60 at byte 19: the text is no drawing; up to there it could be one
+line 2, column 8:
+T=1; k ??=3;
+       ^
+";
+    undraw_says("k=3", "k\té=3", told, "result 60 19 0\n");
+    let told = "\
+refused 60 at byte 100: the text is no drawing; up to there it could be one
+line 7, column 7, where the text ends:
+s0 ->
+      ^
+";
+    let drawing = fs::read(example("echo.dot")).expect("an example");
+    assert_eq!(text(&asked_with_input(&["undraw", "-"], &drawing[..100]).stderr), told);
+    let nothing = "\
+refused 60 at byte 0: the text is no drawing; up to there it could be one
+line 1, column 1, where the text ends:
+
+^
+";
+    assert_eq!(text(&asked_with_input(&["undraw", "-"], b"").stderr), nothing);
+}
+
+#[test]
+fn of_a_long_line_what_is_near_is_shown() {
+    let drawing = fs::read_to_string(example("echo.dot")).expect("an example").replace('\n', "");
+    let wrong = drawing.replacen("0 1 1", "0 1", 1);
+    let told = "\
+refused 60 at byte 133: the text is no drawing; up to there it could be one
+line 1, column 134:
+... [label=\"2 1\"];s0 -> s0 [label=\"0 0 0\"];s0 -> s2 [label=\"0 1\"];s0 -> s3 [label=\"1 -1 0\"];s1 -> s2 [label=\"0 0 0\"];s2 -> ...
+                                                               ^
+";
+    let got = asked_with_input(&["undraw", "-"], wrong.as_bytes());
+    assert_eq!((got.status.code(), text(&got.stderr)), (Some(1), told));
+}
+
+#[test]
+fn a_refused_state_or_rule_is_shown() {
+    let told = "\
+refused 4 at state 1: the state has a flag above bit 1, a sent bit for no type, or is initial and has already sent
+line 4, column 1:
+s1 [label=\"1 1\"];
+^
+";
+    undraw_says("s1 [label=\"1 0\"]", "s1 [label=\"1 1\"]", told, "result 4 1 0\n");
+    // The name that a rule begins with, after blanks.
+    let told = "\
+refused 6 at rule 2: the rule's from or to is no state
+line 10, column 3:
+  s0 -> s4 [label=\"1 -1 0\"];
+  ^
+";
+    undraw_says("s0 -> s3", "\n\t s0 -> s4", told, "result 6 2 0\n");
+    // Neither names one.
+    let (initial, not) = ("s0 [label=\"1 0\"];\ns1 [label=\"1 0\"]", "s0 [label=\"0 0\"];\ns1 [label=\"0 0\"]");
+    undraw_says(initial, not, "refused 5: no state is initial\n", "result 5 0 0\n");
+    undraw_says("k=3", "k=9", COUNTS, "result 2 0 0\n");
+}
+
+const COUNTS: &str =
+    "refused 2: a count of the table (1 to 16 states, 1 to 64 rules, 1 to 4 types) or k (1 to 8) is out of range\n";
+
+#[test]
+fn a_table_that_is_none_is_not_drawn() {
+    for words in [&["draw"][..], &["draw", "--svg"], &["draw", "--png"]] {
+        says(words, "w.bundle", 1, "", COUNTS);
+    }
+    says(&["draw", "--plain"], "w.bundle", 1, "", "result 2 0 0\n");
+    let got = asked_with_input(&["draw", "-"], b"");
+    assert_eq!((got.status.code(), text(&got.stderr)), (Some(1), "refused 1: the table part is under 8 bytes\n"));
+}
+
+#[test]
+fn images_are_made_by_graphviz() {
+    let echo = example("echo.table");
+    let got = asked(&[OsStr::new("draw"), OsStr::new("--svg"), echo.as_os_str()]);
+    let image = text(&got.stdout);
+    assert_eq!(got.status.code(), Some(0), "{}", text(&got.stderr));
+    assert!(text(&got.stderr).ends_with(" bytes: an image of 4 states and 7 rules\n"), "{}", text(&got.stderr));
+    assert_eq!(["class=\"node\"", "class=\"edge\""].map(|class| image.matches(class).count()), [4, 7]);
+    // Names and labels of the states, labels of the rules, T and k.
+    for shown in [">s0<", ">s3<", ">1 0<", ">2 1<", ">0 1 1<", ">1 &#45;1 0<", ">T = 1, k = 3. "] {
+        assert!(image.contains(shown), "{shown}: {image}");
+    }
+    let out = room("image").join("echo.png");
+    let words = ["draw".into(), "--png".into(), "--plain".into(), echo.into_os_string()];
+    let got = asked(&[&words[..], &["-o".into(), out.clone().into_os_string()]].concat());
+    assert_eq!((got.status.code(), text(&got.stderr)), (Some(0), "result 0 0 280\n"));
+    assert!(fs::read(&out).expect("the image").starts_with(b"\x89PNG\r\n"));
+}
+
+// The program where only a folder's programs are found.
+fn drawn_with_path(folder: &Path, words: &[&OsStr]) -> Output {
+    let mut command = Command::new("sh");
+    command.args(["-c", "first=$(command -v \"$2\"); PATH=$1; shift 2; exec \"$first\" \"$@\"", "sh"]).arg(folder);
+    command.args(std::env::var_os("MACAROOSH_RUNNER")).arg(PROGRAM).arg("draw").args(words);
+    command.output().expect("a shell")
+}
+
+#[test]
+fn without_graphviz_that_is_said() {
+    let room = room("without-graphviz");
+    let (echo, out) = (example("echo.table"), room.join("out"));
+    fs::write(&out, "as it was").expect("a file");
+    for option in ["--svg", "--png"] {
+        let words = [OsStr::new(option), echo.as_os_str(), OsStr::new("-o"), out.as_os_str()];
+        let got = drawn_with_path(&room, &words);
+        assert_eq!((got.status.code(), text(&got.stdout)), (Some(2), ""));
+        let told = "needs Graphviz's program 'dot', which is not installed (on Debian: apt-get install graphviz)";
+        assert_eq!(text(&got.stderr), format!("macaroosh: {option} {told}\n"));
+    }
+    // One that fails: `cat` has no such options.
+    std::os::unix::fs::symlink("/bin/cat", room.join("dot")).expect("a link");
+    let got = drawn_with_path(&room, &[OsStr::new("--svg"), echo.as_os_str(), OsStr::new("-o"), out.as_os_str()]);
+    assert_eq!((got.status.code(), text(&got.stdout)), (Some(2), ""));
+    let told = "macaroosh: Graphviz's program 'dot' gave no image: exit status: 1\n";
+    let why = text(&got.stderr).strip_prefix(told).expect("what happened");
+    assert!(why.contains("invalid option") && why.ends_with(".\n"), "{why}");
+    assert_eq!(fs::read(&out).expect("the file"), b"as it was");
+    // The drawing itself needs none.
+    assert_eq!(drawn_with_path(&room, &[echo.as_os_str()]).status.code(), Some(0));
+}
+
+#[test]
 fn a_standing_table_is_read_where_the_bundle_has_none() {
     let echo = example("echo.table").into_os_string();
     let words = |table| ["run".into(), "--plain".into(), "--standing".into(), table, example("w.bundle").into()];
@@ -216,7 +394,9 @@ fn help_is_there() {
     for words in [vec!["--help"], vec!["help"], vec!["run", "-h"]] {
         let got = asked(&words);
         assert_eq!((got.status.code(), text(&got.stderr)), (Some(0), ""));
-        assert!(text(&got.stdout).contains("macaroosh translate FILE"));
+        for command in ["translate FILE", "draw TABLE", "undraw DRAWING"] {
+            assert!(text(&got.stdout).contains(&format!("macaroosh {command}")));
+        }
     }
     let got = asked::<&str>(&[]);
     assert_eq!((got.status.code(), text(&got.stdout)), (Some(2), ""));
@@ -233,11 +413,20 @@ fn mistake<S: AsRef<OsStr>>(words: &[S], told: &str) {
 
 #[test]
 fn wrong_words_are_told() {
-    mistake(&["rnu", "x"], "there is no command 'rnu'; the commands are run, trace, first, translate");
-    mistake(&["run", "--plian", "x"], "there is no option '--plian'");
+    mistake(&["rnu", "x"], "there is no command 'rnu'; the commands are run, trace, first, translate, draw, undraw");
+    mistake(&["run", "--plian", "x"], "there is no option '--plian'; the options are --standing, -o, --svg, --png");
     mistake(&["run"], "which bundle?");
-    mistake(&["--plain"], "which command: run, trace, first or translate?");
-    mistake(&["run", "x", "y"], "'y' is one word too many");
+    mistake(&["draw"], "which table?");
+    mistake(&["undraw"], "which drawing?");
+    mistake(&["--plain"], "which command: run, trace, first, translate, draw or undraw?");
+    mistake(&["run", "x", "y"], "one bundle at a time: 'y' is one word too many");
+    mistake(&["draw", "x", "y"], "one table at a time: 'y' is one word too many");
+    mistake(&["undraw", "x", "y"], "one drawing at a time: 'y' is one word too many");
+    mistake(&["draw", "x", "--standing", "y"], "--standing is for bundles; this command reads a table alone");
+    mistake(&["undraw", "x", "--standing", "y"], "--standing is for bundles; this command reads a drawing alone");
+    mistake(&["run", "x", "--svg"], "--svg and --png are for draw alone");
+    mistake(&["undraw", "x", "--png"], "--svg and --png are for draw alone");
+    mistake(&["draw", "x", "--svg", "--png"], "--svg or --png is given twice");
     mistake(&["run", "x", "-o"], "-o needs a file after it");
     mistake(&["run", "x", "--standing"], "--standing needs a file after it");
     mistake(&["run", "x", "-o", "a", "-o", "b"], "-o is given twice");
@@ -278,6 +467,8 @@ fn a_gigabyte_is_not_read() {
     let path = room.join("gigabyte");
     File::create(&path).and_then(|file| file.set_len(1 << 30)).expect("a file of holes");
     mistake(&[OsStr::new("run"), path.as_os_str()], "is over 1048576 bytes; a bundle has at most 17392");
+    mistake(&[OsStr::new("draw"), path.as_os_str()], "is over 1048576 bytes; a table has at most 936");
+    mistake(&[OsStr::new("undraw"), path.as_os_str()], "a drawing without blanks of its own has at most 5773");
     fs::remove_file(&path).expect("removed");
     // Standard input that never ends.
     let zeros = File::open("/dev/zero").expect("zeros");
@@ -372,6 +563,21 @@ fn no_bundle_makes_it_stumble() {
             let refused = !report(&bundle).starts_with("result 0 ");
             assert_eq!(got.status.code(), Some(i32::from(refused)), "seed {seed}: {command}");
             assert_eq!(text(&got.stderr).starts_with("refused "), refused, "seed {seed}: {command}");
+        }
+    }
+}
+
+#[test]
+fn no_table_or_text_makes_it_stumble() {
+    for seed in 1..=100 {
+        let (table, drawing) = (sketches::table(&mut Dice::new(seed)), sketches::text(&mut Dice::new(seed)));
+        let cases =
+            [("draw", &table, read_table(&table).is_err()), ("undraw", &drawing, Model.table(&drawing).is_err())];
+        for (command, input, refused) in cases {
+            let got = asked_with_input(&[command, "-"], input);
+            assert_eq!(got.status.code(), Some(i32::from(refused)), "seed {seed}: {command}");
+            assert_eq!(text(&got.stderr).starts_with("refused "), refused, "seed {seed}: {command}");
+            assert_eq!(got.stdout.is_empty(), refused, "seed {seed}: {command}");
         }
     }
 }
