@@ -17,7 +17,7 @@ use Rattle.engine.specs.Design.{metAt}
 use Rattle.engine.specs.Entry.{ranWith, ranAnswer, runAnswer, runWords}
 use Rattle.translate.specs.Written.{bytesOf, rewritten, moved, translationWith}
 use Rattle.translate.specs.Entry.{wrote, translateAnswer, translateBytes}
-use Rattle.first_step.specs.First.{orElse, seek, tries, first}
+use Rattle.first_step.specs.First.{orElse, seek, tries, first, possible}
 use Rattle.first_step.specs.Entry.{afterRun, firstAnswer}
 use Rattle.claims.specs.Figures.{Every, cases}
 
@@ -26,5 +26,5 @@ unfolding
     count some every mem insert signedByte thresholdOf _if_else_ _▹_ firstFault ruleAt tooShort countsOff distancesOff stateOff noInitial noState forgets sendsTwo
     stateFault ruleFault recordsFault tableFault frontLength tableInUse startsOf stepsOf noTrailer outOfBundle notAdmitted stepsOff notInitial startFault scheduleFault
     faultWith size cellAt sentAt state cell sent hear tell start wide slot bump coll shown heard stepped malformed notInTransit notMet stepFault stepsIn run tagOf tagBy lowSender lowest lowAll least metAt ranWith
-    ranAnswer runAnswer runWords bytesOf rewritten moved translationWith wrote translateAnswer translateBytes orElse seek tries first afterRun firstAnswer
+    ranAnswer runAnswer runWords bytesOf rewritten moved translationWith wrote translateAnswer translateBytes orElse seek possible tries first afterRun firstAnswer
 figures = (refl, (refl, (refl, (refl, (refl, (refl, ((refl, refl), ((refl, refl), ((refl, refl), ((refl, refl), ((refl, refl), ((refl, refl), ((refl, refl), ((refl, refl), ((refl, refl), (refl, (refl, (refl, (refl, (refl, ((refl, refl), ((refl, refl), ((refl, refl), ((refl, refl), ((refl, refl), (refl, (refl, (refl, tt))))))))))))))))))))))))))))

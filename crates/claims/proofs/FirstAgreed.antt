@@ -1,7 +1,7 @@
 -- The first possible step in both forms. Each is accepted in its own form and so, translated, in the other; neither may then
 -- come before the other's first.
 use mathlib.Core.Path.{_≡_, refl, sym, ap, ap₂, _∙_, subst}
-use mathlib.Core.Bool.{Bool, true, false}
+use mathlib.Core.Bool.{Bool, true, false, true≢false}
 use mathlib.Core.List.{List}
 use Prim.Native.Nat.{ℕ, _<_}
 use native.Mathlib.Decide.{decLt}
@@ -14,7 +14,7 @@ use Rattle.agree.specs.Picture.{Kept, Pictured}
 use Rattle.agree.proofs.Senders.{tag-grows}
 use Rattle.agree.proofs.Agree.{tagged-silent, tagged-message, lowest-silent, lowest-message, typed, low-is, low-first, forward, backward}
 use Rattle.engine.specs.Design.{stepOf}
-use Rattle.first_step.specs.First.{Found, none, found, first}
+use Rattle.first_step.specs.First.{Found, none, found, isWait, first}
 use Rattle.claims.specs.FirstStep.{EarlierMessage, noMessage, lowerType, lowerSource, Earlier, lowerBoard, lowerRule, message, FirstAgreed}
 use Rattle.claims.proofs.FirstStep.{clash, silent-is, first-possible}
 
@@ -81,20 +81,37 @@ module _ (d : Design) (K : Kept d) (w v : List ℕ) (X : Pictured d w v) where
         go false true e h = absurd (not-after s t _ _ (along t (tagged-message d s e) f) (along s (lowest-silent d w t h) g) (noMessage h e))
         go false false e h = both-messages e h (along t (tagged-message d s e) f) (along s (lowest-message d w t h) g) ∙ sym (lowest-message d w t h)
 
+  -- ---- a translation of a wait is a wait, and of no other step
+  wait-tagged : (s : Step) → stepFault 0 d w s ≡ 0 → isWait d (tagged d s) ≡ isWait d s
+  wait-tagged s z = go (silent s) refl
+    where
+      go : (b : Bool) → silent s ≡ b → isWait d (tagged d s) ≡ isWait d s
+      go true e = ap (isWait d) (tagged-silent d s e)
+      go false e = ap (isWait d) (tagged-message d s e) ∙ rw (typed (d .types) s (tagOf (d .boards) (s .source)) (K .few) (accepted 0 d w s z .arrives .named e .type), e)
+
+  wait-lowest : (t : Step) → stepFault 1 d v t ≡ 0 → isWait d (lowest d w t) ≡ isWait d t
+  wait-lowest t z = go (silent t) refl
+    where
+      go : (b : Bool) → silent t ≡ b → isWait d (lowest d w t) ≡ isWait d t
+      go true e = ap (isWait d) (lowest-silent d w t e)
+      go false e = ap (isWait d) (lowest-message d w t e) ∙ rw (typed (d .types) t (lowSender d w t) (K .few) (accepted 1 d v t z .arrives .named e .type), e)
+
   both-found : (s t : Step) → first 0 d w ≡ found s → first 1 d v ≡ found t → s ≡ lowest d w t
   both-found s t h k =
       let F = first-possible 0 d w in
       let G = first-possible 1 d v in
       let a = F .accepted s h in
       let b = G .accepted t k in
-      same s t a b (λ l. G .earliest t k (tagged d s) l (forward d K w v X s a .accepted)) (λ l. F .earliest s h (lowest d w t) l (backward d K w v X t b .accepted))
+      same s t a b
+      (λ l. true≢false (sym (G .earliest t k (tagged d s) l (forward d K w v X s a .accepted)) ∙ wait-tagged s a ∙ F .no-wait s h))
+      (λ l. true≢false (sym (F .earliest s h (lowest d w t) l (backward d K w v X t b .accepted)) ∙ wait-lowest t b ∙ G .no-wait t k))
 
   -- where one form has a step, the other has one
   none-there : first 0 d w ≡ none → first 1 d v ≡ none
-  none-there h = first-possible 1 d v .nothing-else (λ t b. first-possible 0 d w .none-possible h (lowest d w t) (backward d K w v X t b .accepted))
+  none-there h = first-possible 1 d v .nothing-else (λ t b. sym (wait-lowest t b) ∙ first-possible 0 d w .none-possible h (lowest d w t) (backward d K w v X t b .accepted))
 
   none-back : first 1 d v ≡ none → first 0 d w ≡ none
-  none-back h = first-possible 0 d w .nothing-else (λ s a. first-possible 1 d v .none-possible h (tagged d s) (forward d K w v X s a .accepted))
+  none-back h = first-possible 0 d w .nothing-else (λ s a. sym (wait-tagged s a) ∙ first-possible 1 d v .none-possible h (tagged d s) (forward d K w v X s a .accepted))
 
   there : (s : Step) → first 0 d w ≡ found s → first 1 d v ≡ found (tagged d s)
   there s h = go (first 1 d v) refl

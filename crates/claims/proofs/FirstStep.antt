@@ -1,20 +1,20 @@
 -- The first possible step.
 use mathlib.Core.Path.{_≡_, refl, sym, ap, ap₂, _∙_, subst, subst⁻¹}
-use mathlib.Core.Bool.{Bool, true, false, true≢false}
+use mathlib.Core.Bool.{Bool, true, false, not, true≢false}
 use mathlib.Core.List.{List}
 use Prim.Native.Nat.{ℕ, zero, suc, _<_}
 use native.Mathlib.Nat.{not-suc-le-zero, le-refl}
 use native.Mathlib.Decide.{ℕ-discrete}
 use native.Mathlib.Omega.{arith}
 use lib.Dec.{eqb}
-use borrow.Author.Tests.{eq-eqb, eqb-true}
+use borrow.Author.Tests.{eq-eqb, eqb-true, not-true}
 use Rattle.senders.proofs.TallyLaws.{and-both}
 use Rattle.fault.specs.Fault.{_if_else_}
 use Rattle.paper.specs.Paper.{Design, Step, silent}
 use Rattle.paper.specs.Step.{columnOf, stepFault}
 use Rattle.paper.proofs.StepLaws.{Accepted, accepted}
 use Rattle.engine.specs.Design.{stepOf}
-use Rattle.first_step.specs.First.{Found, none, found, orElse, seek, tries, ofSources, ofTypes, ofRules, first}
+use Rattle.first_step.specs.First.{Found, none, found, orElse, seek, isWait, possible, tries, ofSources, ofTypes, ofRules, first}
 use Rattle.claims.specs.FirstStep.{EarlierMessage, noMessage, lowerType, lowerSource, Earlier, lowerBoard, lowerRule, message, FirstPossible}
 
 pub clash : {A : Type 0} (s : Step) → none ≡ found s → A
@@ -70,45 +70,61 @@ module _ (k : ℕ) (d : Design) (w : List ℕ) where
   abbrev n : ℕ
   n = columnOf k d .sources
 
-  -- ---- a step that is tried
-  tried-none : (p r m q : ℕ) → tries k d w p r m q ≡ none → stepFault k d w (stepOf p r m q) ≡ 0 → ⊥
-  unfolding tries _if_else_
-  tried-none p r m q h z = clash (stepOf p r m q) (sym h ∙ rw (eq-eqb _ 0 z))
+  -- accepted, and no wait
+  abbrev Possible : Step → Type 0
+  Possible s = possible k d w s ≡ true
 
-  tried-found : (p r m q : ℕ) (s : Step) → tries k d w p r m q ≡ found s → (s ≡ stepOf p r m q) × (stepFault k d w (stepOf p r m q) ≡ 0)
+  is-accepted : (s : Step) → Possible s → stepFault k d w s ≡ 0
+  unfolding possible
+  is-accepted s h = eqb-true _ 0 (and-both (eqb (stepFault k d w s) 0) (not (isWait d s)) h .0)
+
+  is-no-wait : (s : Step) → Possible s → isWait d s ≡ false
+  unfolding possible
+  is-no-wait s h = not-true (isWait d s) (and-both (eqb (stepFault k d w s) 0) (not (isWait d s)) h .1)
+
+  is-possible : (s : Step) → stepFault k d w s ≡ 0 → isWait d s ≡ false → Possible s
+  unfolding possible
+  is-possible s z o = rw (eq-eqb _ 0 z, o)
+
+  -- ---- a step that is tried
+  tried-none : (p r m q : ℕ) → tries k d w p r m q ≡ none → Possible (stepOf p r m q) → ⊥
   unfolding tries _if_else_
-  tried-found p r m q s = go (eqb (stepFault k d w (stepOf p r m q)) 0) refl
+  tried-none p r m q h z = clash (stepOf p r m q) (sym h ∙ rw z)
+
+  tried-found : (p r m q : ℕ) (s : Step) → tries k d w p r m q ≡ found s → (s ≡ stepOf p r m q) × (Possible (stepOf p r m q))
+  unfolding tries _if_else_
+  tried-found p r m q s = go (possible k d w (stepOf p r m q)) refl
     where
-      go : (b : Bool) → eqb (stepFault k d w (stepOf p r m q)) 0 ≡ b → (found (stepOf p r m q) if b else none) ≡ found s → (s ≡ stepOf p r m q) × (stepFault k d w (stepOf p r m q) ≡ 0)
-      go true e h = (sym (same-found (stepOf p r m q) s h), eqb-true _ 0 e)
+      go : (b : Bool) → possible k d w (stepOf p r m q) ≡ b → (found (stepOf p r m q) if b else none) ≡ found s → (s ≡ stepOf p r m q) × (Possible (stepOf p r m q))
+      go true e h = (sym (same-found (stepOf p r m q) s h), e)
       go false e h = clash s h
 
   -- ---- an accepted step is seen at its board and rule
-  rule-sees : (s : Step) → stepFault k d w s ≡ 0 → ofTypes n d w k (s .board) (s .rule) ≡ none → ⊥
+  rule-sees : (s : Step) → Possible s → ofTypes n d w k (s .board) (s .rule) ≡ none → ⊥
   rule-sees s z h = go (silent s) refl
     where
       A : Accepted k d w s
-      A = accepted k d w s z
+      A = accepted k d w s (is-accepted s z)
 
       go : (b : Bool) → silent s ≡ b → ⊥
-      go true e = tried-none (s .board) (s .rule) 255 255 (or-first _ _ h) (ap (stepFault k d w) (silent-is s e) ∙ z)
+      go true e = tried-none (s .board) (s .rule) 255 255 (or-first _ _ h) (ap (possible k d w) (silent-is s e) ∙ z)
       go false e =
           let N = A .arrives .named e in
           tried-none (s .board) (s .rule) (s .type) (s .source)
           (seek-each n (tries k d w (s .board) (s .rule) (s .type)) (seek-each (d .types) (ofSources n d w k (s .board) (s .rule)) (or-second _ _ h) (s .type) (N .type)) (s .source) (N .source)) z
 
-  board-sees : (s : Step) → stepFault k d w s ≡ 0 → ofRules n d w k (s .board) ≡ none → ⊥
-  board-sees s z h = rule-sees s z (seek-each (d .rules) (ofTypes n d w k (s .board)) h (s .rule) (accepted k d w s z .arrives .rule))
+  board-sees : (s : Step) → Possible s → ofRules n d w k (s .board) ≡ none → ⊥
+  board-sees s z h = rule-sees s z (seek-each (d .rules) (ofTypes n d w k (s .board)) h (s .rule) (accepted k d w s (is-accepted s z) .arrives .rule))
 
-  none-is : first k d w ≡ none → (s : Step) → stepFault k d w s ≡ 0 → ⊥
+  none-is : first k d w ≡ none → (s : Step) → Possible s → ⊥
   unfolding first
-  none-is h s z = board-sees s z (seek-each (d .boards) (ofRules n d w k) h (s .board) (accepted k d w s z .arrives .board))
+  none-is h s z = board-sees s z (seek-each (d .boards) (ofRules n d w k) h (s .board) (accepted k d w s (is-accepted s z) .arrives .board))
 
   -- ---- where a step is found
   -- at board p and rule r, by the try of no message, or by that of type m and source q
   data ByRule (p r : ℕ) (s : Step) : Type 0 where
-    byNone : s ≡ stepOf p r 255 255 → stepFault k d w (stepOf p r 255 255) ≡ 0 → ByRule p r s
-    byMessage : (m q : ℕ) → s ≡ stepOf p r m q → stepFault k d w (stepOf p r m q) ≡ 0 → tries k d w p r 255 255 ≡ none
+    byNone : s ≡ stepOf p r 255 255 → Possible (stepOf p r 255 255) → ByRule p r s
+    byMessage : (m q : ℕ) → s ≡ stepOf p r m q → Possible (stepOf p r m q) → tries k d w p r 255 255 ≡ none
         → ((j : ℕ) → j < m → ofSources n d w k p r j ≡ none) → ((j : ℕ) → j < q → tries k d w p r m j ≡ none) → ByRule p r s
 
   by-rule : (p r : ℕ) (s : Step) → ofTypes n d w k p r ≡ found s → ByRule p r s
@@ -137,9 +153,9 @@ module _ (k : ℕ) (d : Design) (w : List ℕ) where
       let R = seek-hit (d .rules) (ofTypes n d w k (B .at)) s (B .here) in
       record { board = B .at; rule = R .at; boards = B .before; rules = R .before; found-by = by-rule (B .at) (R .at) s (R .here) }
 
-  by-accepted : (p r : ℕ) (s : Step) → ByRule p r s → stepFault k d w s ≡ 0
-  by-accepted p r s (byNone e z) = ap (stepFault k d w) e ∙ z
-  by-accepted p r s (byMessage m q e z h f g) = ap (stepFault k d w) e ∙ z
+  by-accepted : (p r : ℕ) (s : Step) → ByRule p r s → Possible s
+  by-accepted p r s (byNone e z) = ap (possible k d w) e ∙ z
+  by-accepted p r s (byMessage m q e z h f g) = ap (possible k d w) e ∙ z
 
   by-board : (p r : ℕ) (s : Step) → ByRule p r s → s .board ≡ p
   by-board p r s (byNone e z) = ap (λ (x : Step). x .board) e
@@ -150,21 +166,21 @@ module _ (k : ℕ) (d : Design) (w : List ℕ) where
   by-number p r s (byMessage m q e z h f g) = ap (λ (x : Step). x .rule) e
 
   -- ---- nothing earlier
-  module _ (t : Step) (z : stepFault k d w t ≡ 0) where
+  module _ (t : Step) (z : Possible t) where
     no-earlier-message : (p r : ℕ) (s : Step) → ByRule p r s → t .board ≡ p → t .rule ≡ r → EarlierMessage t s → ⊥
     no-earlier-message p r s (byNone e y) hp hr (noMessage a b) = true≢false (sym (ap silent e) ∙ b)
     no-earlier-message p r s (byNone e y) hp hr (lowerType a b l) = true≢false (sym (ap silent e) ∙ b)
     no-earlier-message p r s (byNone e y) hp hr (lowerSource a b c l) = true≢false (sym (ap silent e) ∙ b)
     no-earlier-message p r s (byMessage m q e y h f g) hp hr (noMessage a b) =
-        tried-none p r 255 255 h (ap₂ (λ (x y : ℕ). stepFault k d w (stepOf x y 255 255)) (sym hp) (sym hr) ∙ ap (stepFault k d w) (silent-is t a) ∙ z)
+        tried-none p r 255 255 h (ap₂ (λ (x y : ℕ). possible k d w (stepOf x y 255 255)) (sym hp) (sym hr) ∙ ap (possible k d w) (silent-is t a) ∙ z)
     no-earlier-message p r s (byMessage m q e y h f g) hp hr (lowerType a b l) =
-        let N = accepted k d w t z .arrives .named a in
+        let N = accepted k d w t (is-accepted t z) .arrives .named a in
         tried-none p r (t .type) (t .source) (seek-each n (tries k d w p r (t .type)) (f (t .type) (subst (λ (x : ℕ). t .type < x) (ap (λ (x : Step). x .type) e) l)) (t .source) (N .source))
-        (ap₂ (λ (x y : ℕ). stepFault k d w (stepOf x y (t .type) (t .source))) (sym hp) (sym hr) ∙ z)
+        (ap₂ (λ (x y : ℕ). possible k d w (stepOf x y (t .type) (t .source))) (sym hp) (sym hr) ∙ z)
     no-earlier-message p r s (byMessage m q e y h f g) hp hr (lowerSource a b c l) =
         tried-none p r m (t .source) (g (t .source) (subst (λ (x : ℕ). t .source < x) (ap (λ (x : Step). x .source) e) l))
-        (ap (λ (x : ℕ). stepFault k d w (stepOf p r x (t .source))) (sym (c ∙ ap (λ (x : Step). x .type) e))
-        ∙ ap₂ (λ (x y : ℕ). stepFault k d w (stepOf x y (t .type) (t .source))) (sym hp) (sym hr) ∙ z)
+        (ap (λ (x : ℕ). possible k d w (stepOf p r x (t .source))) (sym (c ∙ ap (λ (x : Step). x .type) e))
+        ∙ ap₂ (λ (x y : ℕ). possible k d w (stepOf x y (t .type) (t .source))) (sym hp) (sym hr) ∙ z)
 
     no-earlier : (s : Step) → Place s → Earlier t s → ⊥
     no-earlier s P (lowerBoard l) = board-sees t z (P .boards (t .board) (subst (λ (x : ℕ). t .board < x) (by-board (P .board) (P .rule) s (P .found-by)) l))
@@ -176,12 +192,24 @@ module _ (k : ℕ) (d : Design) (w : List ℕ) where
 
   pub first-possible : FirstPossible k d w
   first-possible = record {
-    none-possible = none-is;
+    none-possible = λ h s z. waits s z (none-is h s);
     nothing-else = λ f. go f (first k d w) refl;
-    accepted = λ s h. let P = place s h in by-accepted (P .board) (P .rule) s (P .found-by);
-    earliest = λ s h t e z. no-earlier t z s (place s h) e;
+    accepted = λ s h. is-accepted s (seen s h);
+    no-wait = λ s h. is-no-wait s (seen s h);
+    earliest = λ s h t e z. waits t z (λ y. no-earlier t y s (place s h) e);
   }
     where
-      go : ((s : Step) → stepFault k d w s ≡ 0 → ⊥) → (a : Found) → first k d w ≡ a → first k d w ≡ none
+      seen : (s : Step) → first k d w ≡ found s → Possible s
+      seen s h = let P = place s h in by-accepted (P .board) (P .rule) s (P .found-by)
+
+      -- what is accepted and not possible is a wait
+      waits : (s : Step) → stepFault k d w s ≡ 0 → (Possible s → ⊥) → isWait d s ≡ true
+      waits s z n = split (isWait d s) refl
+        where
+          split : (b : Bool) → isWait d s ≡ b → isWait d s ≡ true
+          split true e = e
+          split false e = absurd (n (is-possible s z e))
+
+      go : ((s : Step) → stepFault k d w s ≡ 0 → isWait d s ≡ true) → (a : Found) → first k d w ≡ a → first k d w ≡ none
       go f none e = e
-      go f (found s) e = let P = place s e in absurd (f s (by-accepted (P .board) (P .rule) s (P .found-by)))
+      go f (found s) e = absurd (true≢false (sym (f s (is-accepted s (seen s e))) ∙ is-no-wait s (seen s e)))

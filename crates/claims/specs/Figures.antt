@@ -88,7 +88,7 @@ cases =
     runs (schedule (1 ∷ []) (0 ∷ 3 ∷ 255 ∷ 255 ∷ 0 ∷ 5 ∷ 0 ∷ 0 ∷ []) 1 0 0) echo 0 0 2 (3 ∷ 1 ∷ 1 ∷ []) ∷
     -- two correct echoes were sent and heard: a third is not in transit, whatever room a faulty one has
     runs (scheduleIn 1 (1 ∷ 1 ∷ 1 ∷ []) (0 ∷ 3 ∷ 255 ∷ 255 ∷ 2 ∷ 3 ∷ 0 ∷ 0 ∷ 2 ∷ 4 ∷ 0 ∷ 0 ∷ 2 ∷ 4 ∷ 0 ∷ 0 ∷ []) 4 1 1) echo 24 3 3 (2 ∷ 1 ∷ 2 ∷ 0 ∷ 0 ∷ 0 ∷ 0 ∷ 2 ∷ 0 ∷ 2 ∷ []) ∷
-    -- after W the first possible step is 00 04 FF FF, in both forms; after P5's refusal there is none
-    firstOf W echo (First.Step 0 4 255 255) ∷
-    firstOf WCounting echo (First.Step 0 4 255 255) ∷
+    -- after W the first possible step is 00 04 00 00 (Q-2), in both forms; after P5's refusal there is none
+    firstOf W echo (First.Step 0 4 0 0) ∷
+    firstOf WCounting echo (First.Step 0 4 0 0) ∷
     firstOf (fiveSteps 0 3 0 0) echo (First.Refused 24 4) ∷ []

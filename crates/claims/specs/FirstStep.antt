@@ -1,4 +1,4 @@
--- The first possible step: none exactly when no step is accepted; what is found is accepted, and nothing earlier is.
+-- The first possible step: none exactly when no step but waits is accepted; what is found is accepted and no wait, and nothing earlier is.
 -- And in both forms it is the same step, translated. Proofs: proofs/FirstStep.antt, proofs/FirstAgreed.antt.
 use mathlib.Core.Path.{_≡_}
 use mathlib.Core.Bool.{true, false}
@@ -7,7 +7,7 @@ use Prim.Native.Nat.{ℕ, _<_}
 use Rattle.paper.specs.Paper.{Design, Step, silent}
 use Rattle.paper.specs.Step.{stepFault}
 use Rattle.agree.specs.Translation.{tagged, lowest}
-use Rattle.first_step.specs.First.{none, found, first}
+use Rattle.first_step.specs.First.{none, found, isWait, first}
 
 -- ---- the outline's order: by board, then rule, then no message before type 0, 1, .. and source 0, 1, .. within a type
 pub data EarlierMessage (s t : Step) : Type 0 where
@@ -21,12 +21,13 @@ pub data Earlier (s t : Step) : Type 0 where
   message : s .board ≡ t .board → s .rule ≡ t .rule → EarlierMessage s t → Earlier s t
 
 pub record FirstPossible (k : ℕ) (d : Design) (w : List ℕ) : Type 0 where
-  -- none exactly when no step is accepted
-  pub none-possible : first k d w ≡ none → (s : Step) → stepFault k d w s ≡ 0 → ⊥
-  pub nothing-else : ((s : Step) → stepFault k d w s ≡ 0 → ⊥) → first k d w ≡ none
-  -- the found one is accepted, and no earlier one is
+  -- none exactly when no step but waits is accepted
+  pub none-possible : first k d w ≡ none → (s : Step) → stepFault k d w s ≡ 0 → isWait d s ≡ true
+  pub nothing-else : ((s : Step) → stepFault k d w s ≡ 0 → isWait d s ≡ true) → first k d w ≡ none
+  -- the found one is accepted and no wait, and no earlier one is
   pub accepted : (s : Step) → first k d w ≡ found s → stepFault k d w s ≡ 0
-  pub earliest : (s : Step) → first k d w ≡ found s → (t : Step) → Earlier t s → stepFault k d w t ≡ 0 → ⊥
+  pub no-wait : (s : Step) → first k d w ≡ found s → isWait d s ≡ false
+  pub earliest : (s : Step) → first k d w ≡ found s → (t : Step) → Earlier t s → stepFault k d w t ≡ 0 → isWait d t ≡ true
 
 -- ---- words of sets w and their picture v: the first step of one form is that of the other, translated, or both have none
 pub record FirstAgreed (d : Design) (w v : List ℕ) : Type 0 where
