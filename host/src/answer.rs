@@ -74,7 +74,7 @@ pub trait Bench {
     /// Writes the bundle in the other form to the lent bytes.
     fn translate(&self, bundle: &[u8], standing: &[u8], out: &mut [u8]) -> Answer;
 
-    /// The first possible step after the whole schedule.
+    /// The first possible step after the whole schedule; a wait is none.
     fn first_step(&self, bundle: &[u8], standing: &[u8]) -> First;
 }
 

@@ -310,8 +310,9 @@ impl<'a> Schedule<'a> {
         }
     }
 
-    // The first possible step. Where none is possible without a message, one is only where a single type lacks a single
-    // message, and that is in transit.
+    // The first possible step. Where a board lacks nothing for a rule, that is the rule without a message if it leads to
+    // another state, and with the first message in transit if not; if there is none, the other rules that stay in that
+    // state are passed over. Where something lacks, it is a single message of a single type, and in transit.
     fn first<const COUNTING: bool>(&self, words: &[u64]) -> Option<Step> {
         let (states, rest) = words.split_at(self.starts.len());
         let (cells, sent) = rest.split_at(states.len() * self.row::<COUNTING>());
@@ -320,8 +321,9 @@ impl<'a> Schedule<'a> {
             for (m, count) in counts.iter_mut().enumerate().take(self.types) {
                 *count = total::<COUNTING>(row, m);
             }
+            let mut deaf = false;
             for (r, rule) in self.rules.iter().enumerate() {
-                if state != u64::from(rule.from) {
+                if state != u64::from(rule.from) || (deaf && rule.from == rule.to) {
                     continue;
                 }
                 let (mut lacking, mut lacks) = (0, 0);
@@ -331,15 +333,20 @@ impl<'a> Schedule<'a> {
                         lacks += i32::from(least - count);
                     }
                 }
-                let (board, rule) = (p as u8, r as u8);
-                if lacks == 0 {
-                    return Some(Step { board, rule, kind: 255, source: 255 });
-                }
-                if lacks == 1 {
-                    if let Some(source) = self.lowest::<COUNTING>(row, sent, lacking) {
-                        return Some(Step { board, rule, kind: lacking as u8, source });
+                let tried = match lacks {
+                    0 if rule.from != rule.to => {
+                        return Some(Step { board: p as u8, rule: r as u8, kind: 255, source: 255 });
+                    }
+                    0 => 0..self.types,
+                    1 => lacking..lacking + 1,
+                    _ => continue,
+                };
+                for m in tried {
+                    if let Some(source) = self.lowest::<COUNTING>(row, sent, m) {
+                        return Some(Step { board: p as u8, rule: r as u8, kind: m as u8, source });
                     }
                 }
+                deaf |= lacks == 0;
             }
         }
         None

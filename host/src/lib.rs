@@ -13,7 +13,7 @@
 //! assert_eq!((answer.refusal, answer.place, answer.count), (0, 0, 5));
 //! assert_eq!(words[..7], [2, 2, 3, 0, 0, 0b1011, 0b111]);
 //! let step = first_step(&w, &ECHO).expect("no refusal").expect("a step");
-//! assert_eq!((step.board, step.rule, step.silent()), (0, 4, true));
+//! assert_eq!(step.record(), [0, 4, 0, 0]);
 //!
 //! // The echo table as a drawing, and back.
 //! let (mut text, mut table) = ([0; MOST_DRAWING], [0; MOST_TABLE]);
@@ -69,7 +69,8 @@ pub fn translate(bundle: &[u8], standing: &[u8], out: &mut [u8]) -> Answer {
     unpacked(ffi::translate(bundle, standing, out))
 }
 
-/// The first possible step after the whole schedule, or none.
+/// The first possible step after the whole schedule, or none where no step but waits is accepted. A wait has no message, and
+/// its rule has from = to.
 pub fn first_step(bundle: &[u8], standing: &[u8]) -> First {
     let packed = ffi::first_step(bundle, standing);
     let [number, low, high, given, board, rule, kind, source] = packed.to_le_bytes();

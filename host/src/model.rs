@@ -254,6 +254,12 @@ impl Bundle {
         (0..self.table.types).find(|m| new >> m & 1 == 1)
     }
 
+    /// Whether a step is a wait: it has no message, and its rule has from = to.
+    pub fn waits(&self, step: Step) -> bool {
+        let rule = &self.table.rules[usize::from(step.rule)];
+        step.silent() && rule.from == rule.to
+    }
+
     /// Points 2 and 4 of "One step": what an accepted step changes.
     pub fn apply(&self, configuration: &mut Configuration, step: Step) {
         let p = usize::from(step.board);
@@ -359,7 +365,12 @@ pub trait Outline {
         steps
     }
 
-    /// The first step that is accepted there: by board, rule, no message, then type and source.
+    /// Whether a step is possible there: accepted, and not a wait.
+    fn possible(&self, bundle: &Bundle, left: &Configuration, step: Step) -> bool {
+        self.check(bundle, left, step).is_ok() && !bundle.waits(step)
+    }
+
+    /// The first step that is possible there: by board, rule, no message, then type and source.
     fn first_in(&self, bundle: &Bundle, left: &Configuration) -> Option<Step> {
         for board in 0..bundle.correct() as u8 {
             for rule in 0..bundle.table.rules.len() as u8 {
@@ -367,7 +378,7 @@ pub trait Outline {
                 let messages = (0..bundle.table.types as u8)
                     .flat_map(|kind| (0..bundle.sources() as u8).map(move |source| Step { board, rule, kind, source }));
                 for step in std::iter::once(none).chain(messages) {
-                    if self.check(bundle, left, step).is_ok() {
+                    if self.possible(bundle, left, step) {
                         return Some(step);
                     }
                 }

@@ -101,10 +101,11 @@ fn refused_calls_leave_lent_memory_alone() {
 
 #[test]
 fn first_steps_are_as_the_outline_says() {
-    let wait: First = Ok(Some(Step { board: 0, rule: 4, kind: 255, source: 255 }));
+    // Board 0 hears its own echo by rule 4; without a message that rule is a wait.
+    let hears: First = Ok(Some(Step::of([0, 4, 0, 0])));
     for (who, bench) in BENCHES {
         for hex in [W, COUNTING, SWAPPED] {
-            assert_eq!(bench.first_step(&bytes(hex), &ECHO), wait, "{who}: {hex}");
+            assert_eq!(bench.first_step(&bytes(hex), &ECHO), hears, "{who}: {hex}");
         }
         let refused: First = Err(Refusal { number: 24, place: 4 });
         assert_eq!(bench.first_step(&bytes(TWICE), &ECHO), refused, "{who}");
