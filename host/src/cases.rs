@@ -30,6 +30,7 @@ pub fn cases() -> Vec<Case> {
         of("wide-4096", false, wide()),
         of("none-leaves", true, none_leaves()),
         of("none-met", true, none_met()),
+        of("none-waits", true, none_waits()),
     ];
     all.into_iter().flatten().collect()
 }
@@ -77,10 +78,17 @@ fn none_leaves() -> Vec<u8> {
 fn none_met() -> Vec<u8> {
     let states = (0..16).map(|s: usize| [u8::from(s == 0), (1 << s.min(4)) - 1]);
     let sends = (0..4).map(|s| rule(s, s + 1, [[0; 3]; 4]));
-    let rules = sends.chain((0..60).map(|_| rule(4, 4, [[0; 3], [0; 3], [0; 3], [0, 0, 127]])));
+    let rules = sends.chain((0..60).map(|_| rule(4, 5, [[0; 3], [0; 3], [0; 3], [0, 0, 127]])));
     let table = table(states.collect(), rules.collect());
     let steps = (0..4).flat_map(|rule| (0..64).map(move |board| Step { board, rule, kind: 255, source: 255 }));
     [table, closed(&[0; 64], &steps.collect::<Vec<Step>>(), 64, [64, 0, 0, 0])].concat()
+}
+
+// All 64 boards are in a state where each of the 64 rules waits, and nothing is in transit.
+fn none_waits() -> Vec<u8> {
+    let states = (0..16).map(|s| [u8::from(s == 0), 0]);
+    let rules = (0..64).map(|_| rule(0, 0, [[0; 3]; 4]));
+    [table(states.collect(), rules.collect()), closed(&[0; 64], &[], 64, [64, 0, 0, 0])].concat()
 }
 
 fn rule(from: usize, to: usize, asks: [[u8; 3]; 4]) -> Vec<u8> {
@@ -123,5 +131,5 @@ fn next(dice: &mut Dice, bundle: &Bundle, left: &Configuration) -> Step {
     let receipts = silent.clone().flat_map(|step| {
         types.clone().flat_map(move |kind| senders.clone().map(move |source| Step { kind, source, ..step }))
     });
-    receipts.chain(silent).find(|&step| Model.check(bundle, left, step).is_ok()).expect("a step is possible")
+    receipts.chain(silent).find(|&step| Model.check(bundle, left, step).is_ok()).expect("a step is accepted")
 }
