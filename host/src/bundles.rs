@@ -146,6 +146,13 @@ pub fn closed(before: &[u8], steps: &[Step], correct: usize, numbers: [u8; 4]) -
     bytes
 }
 
+/// The bundle with one step more; it has at least its trailer.
+pub fn with(bytes: &[u8], step: Step) -> Vec<u8> {
+    let (before, trailer) = bytes.split_at(bytes.len() - 8);
+    let distance = |at: usize| (u16::from_le_bytes([trailer[at], trailer[at + 1]]) + 4).to_le_bytes();
+    [before, &step.record(), &distance(0), &distance(2), &trailer[4..]].concat()
+}
+
 fn walk(dice: &mut Dice, bundle: &Bundle) -> Vec<Step> {
     let length = dice.below(50);
     let mut steps = Vec::new();

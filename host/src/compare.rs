@@ -1,20 +1,29 @@
 //! Two benches on one bundle, table or drawing: every answer, and every lent word and byte.
 
-use crate::answer::{Answer, Bench, Draws};
+use crate::answer::{Answer, Bench, Draws, First};
 use crate::bundles::Dice;
 use crate::drawings::{Drawing, Text};
 use crate::model::{read, read_table, Model};
 use std::fmt::Debug;
 
+/// What two benches answered alike.
+#[derive(Debug)]
+pub struct Alike {
+    /// The refusals of run and translation that came up.
+    pub refusals: Vec<u8>,
+    /// The first step.
+    pub first: First,
+}
+
 /// Asks both benches all three questions, with lent memory that is empty, too short by one, exact and long, filled with
-/// the same junk for both. Gives the refusals of run and translation that came up, or says where the benches differ.
+/// the same junk for both. Gives what came up, or says where the benches differ.
 pub fn compare(
     one: &dyn Bench,
     other: &dyn Bench,
     bundle: &[u8],
     standing: &[u8],
     dice: &mut Dice,
-) -> Result<Vec<u8>, String> {
+) -> Result<Alike, String> {
     let mut refusals = Vec::new();
     // Where reading refuses, any length will do.
     let words = read(bundle, standing).map_or(7, |b| b.start().words().len());
@@ -33,10 +42,10 @@ pub fn compare(
     if ours != theirs {
         return Err(format!("first step: {ours:?} against {theirs:?}"));
     }
-    Ok(refusals)
+    Ok(Alike { refusals, first: ours })
 }
 
-/// The same for the drawing of a table part.
+/// The same for the drawing of a table part, with its refusals.
 pub fn compare_draw(one: &dyn Draws, other: &dyn Draws, table: &[u8], dice: &mut Dice) -> Result<Vec<u8>, String> {
     let mut refusals = Vec::new();
     let bytes = read_table(table).map_or(7, |table| Model.text(&Drawing::of(&table)).len());
@@ -48,7 +57,7 @@ pub fn compare_draw(one: &dyn Draws, other: &dyn Draws, table: &[u8], dice: &mut
     Ok(refusals)
 }
 
-/// The same for the table that a text draws.
+/// The same for the table that a text draws, with its refusals.
 pub fn compare_undraw(one: &dyn Draws, other: &dyn Draws, text: &[u8], dice: &mut Dice) -> Result<Vec<u8>, String> {
     let mut refusals = Vec::new();
     let bytes = Model.table(text).map_or(7, |part| part.len());

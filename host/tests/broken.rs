@@ -1,5 +1,5 @@
 //! The comparison can fail: each broken bench differs from the library on some seeded bundle. The first five are the
-//! outline's slips that look harmless, the others what it asks to be caught.
+//! outline's slips that look harmless, the next four take waits wrongly, the others are what it asks to be caught.
 
 use macaroosh::bundles::{case, Dice};
 use macaroosh::compare::compare;
@@ -68,6 +68,47 @@ impl Outline for EchoTwice {
             Messages::Set(sent) => q < bundle.n && (q >= bundle.correct() || sent.contains(&q)),
             _ => Model.in_transit(bundle, before, step),
         }
+    }
+}
+
+// Waits are possible.
+struct OffersWaits;
+
+impl Outline for OffersWaits {
+    fn possible(&self, bundle: &Bundle, left: &Configuration, step: Step) -> bool {
+        self.check(bundle, left, step).is_ok()
+    }
+}
+
+// A rule that stays in its state is never possible, not even with a message.
+struct OnlyMoves;
+
+impl Outline for OnlyMoves {
+    fn possible(&self, bundle: &Bundle, left: &Configuration, step: Step) -> bool {
+        let rule = &bundle.table.rules[usize::from(step.rule)];
+        self.check(bundle, left, step).is_ok() && rule.from != rule.to
+    }
+}
+
+// No step without a message is possible, not even one to another state.
+struct OnlyReceipts;
+
+impl Outline for OnlyReceipts {
+    fn possible(&self, bundle: &Bundle, left: &Configuration, step: Step) -> bool {
+        self.check(bundle, left, step).is_ok() && !step.silent()
+    }
+}
+
+// Waits are refused, as 25.
+struct RefusesWaits;
+
+impl Outline for RefusesWaits {
+    fn check(&self, bundle: &Bundle, before: &Configuration, step: Step) -> Result<(), u8> {
+        Model.check(bundle, before, step)?;
+        if bundle.waits(step) {
+            return Err(25);
+        }
+        Ok(())
     }
 }
 
@@ -167,12 +208,16 @@ fn place_lost(bundle: &[u8], standing: &[u8]) -> First {
 
 #[test]
 fn every_broken_bench_is_caught() {
-    let broken: [(&str, &dyn Bench); 14] = [
+    let broken: [(&str, &dyn Bench); 18] = [
         ("a joint count", &JointCount),
         ("thresholds before the receipt", &CountsBefore),
         ("hears its own echo at once", &HearsItself),
         ("byte FF as 255", &Unsigned),
         ("an echo counted twice", &EchoTwice),
+        ("waits are possible", &OffersWaits),
+        ("a wait with a message is not", &OnlyMoves),
+        ("a move without a message is not", &OnlyReceipts),
+        ("waits are refused", &RefusesWaits),
         ("refuses everything", &But { run: refuses_all, ..SOUND }),
         ("an idle body", &But { run: idle_run, ..SOUND }),
         ("one step, then only counts", &But { run: counted_up, ..SOUND }),

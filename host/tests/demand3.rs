@@ -1,9 +1,10 @@
 //! Demand 3 on a bench's own outputs: what a schedule does in one form, its translation does in the other.
 
-use macaroosh::bundles::{any, each_seed, Dice};
+use macaroosh::bundles::{any, each_seed, with, Dice};
+use macaroosh::fast::Fast;
 use macaroosh::model::Model;
 use macaroosh::parts::{Parts, Picture};
-use macaroosh::{Answer, Bench, Library, Step, ECHO, MOST_WORDS};
+use macaroosh::{Answer, Bench, Library, ECHO, MOST_WORDS};
 
 fn run(bench: &dyn Bench, bytes: &[u8]) -> (Answer, Vec<u64>) {
     let mut words = vec![0; MOST_WORDS];
@@ -28,14 +29,8 @@ fn pictures(bench: &dyn Bench, bytes: &[u8]) -> Vec<Picture> {
     (0..=parts.length()).map(after).collect()
 }
 
-// The bundle with one step more.
-fn with(bytes: &[u8], step: Step) -> Vec<u8> {
-    let (before, trailer) = bytes.split_at(bytes.len() - 8);
-    let distance = |at: usize| (u16::from_le_bytes([trailer[at], trailer[at + 1]]) + 4).to_le_bytes();
-    [before, &step.record(), &distance(0), &distance(2), &trailer[4..]].concat()
-}
-
-fn agrees(bench: &dyn Bench, bytes: &[u8]) {
+// Gives whether both forms have gone quiet.
+fn agrees(bench: &dyn Bench, bytes: &[u8]) -> bool {
     let twin = other_form(bench, bytes);
     let (form, twin_form) = (bytes[bytes.len() - 1], twin[bytes.len() - 1]);
     assert_eq!((form == 1, twin_form == 1), (form == 1, form == 0));
@@ -53,32 +48,43 @@ fn agrees(bench: &dyn Bench, bytes: &[u8]) {
     if let (Some(step), Some(twin_step)) = (first, twin_first) {
         assert_eq!(other_form(bench, &with(bytes, step)), with(&twin, twin_step));
     }
+    first.is_none()
 }
 
-// Whether the seed's bundle was translated, and not refused alike.
-fn holds(bench: &dyn Bench, seed: u64) -> bool {
+// Of a seed's bundle that was translated, and not refused alike, the form and whether it has gone quiet.
+fn holds(bench: &dyn Bench, seed: u64) -> Option<(u8, bool)> {
     let bytes = any(&mut Dice::new(seed));
     let (answer, _) = run(bench, &bytes);
     if answer.refusal == 0 {
-        agrees(bench, &bytes);
-        return true;
+        return Some((bytes[bytes.len() - 1], agrees(bench, &bytes)));
     }
     let mut out = vec![0xAA; bytes.len()];
     let refusal = bench.translate(&bytes, &ECHO, &mut out);
     assert_eq!(refusal, Answer { count: 0, ..answer }, "seed {seed}");
     assert!(out.iter().all(|&byte| byte == 0xAA), "seed {seed}");
-    false
+    None
 }
 
 fn holds_on(bench: &(dyn Bench + Sync)) {
     let all = each_seed(3_000, |seed| holds(bench, seed));
-    let translated = all.iter().filter(|&&translated| translated).count();
-    assert!(translated > 500 && all.len() - translated > 500, "{translated} of {} translated", all.len());
+    let translated: Vec<(u8, bool)> = all.iter().copied().flatten().collect();
+    let refused = all.len() - translated.len();
+    assert!(translated.len() > 500 && refused > 500, "{} translated, {refused} refused", translated.len());
+    for form in [0, 1] {
+        for quiet in [true, false] {
+            assert!(translated.contains(&(form, quiet)), "no bundle of form {form} with quiet {quiet}");
+        }
+    }
 }
 
 #[test]
 fn the_library_s_translation_does_what_its_schedule_does() {
     holds_on(&Library);
+}
+
+#[test]
+fn the_fast_version_s_translation_does_what_its_schedule_does() {
+    holds_on(&Fast);
 }
 
 #[test]

@@ -3,29 +3,54 @@
 
 use macaroosh::bundles::{case, each_seed, seeds, Dice};
 use macaroosh::cases::cases;
-use macaroosh::compare::compare;
+use macaroosh::compare::{compare, Alike};
 use macaroosh::fast::Fast;
-use macaroosh::model::Model;
+use macaroosh::model::{read, Model};
 use macaroosh::{refusals, Bench, Library, ECHO};
 use std::collections::BTreeMap;
 
-// The refusals of run and translation that came up on the seed's bundle.
-fn agrees(bench: &dyn Bench, seed: u64) -> Vec<u8> {
+// The refusals of run and translation that came up on the seed's bundle, and the kind of its first step.
+fn agrees(bench: &dyn Bench, seed: u64) -> (Vec<u8>, Option<String>) {
     let dice = &mut Dice::new(seed);
     let (bundle, standing) = case(dice);
-    compare(&Model, bench, &bundle, &standing, dice).unwrap_or_else(|difference| {
+    let alike = compare(&Model, bench, &bundle, &standing, dice).unwrap_or_else(|difference| {
         panic!("seed {seed}: {difference}\nbundle {bundle:02x?}\nstanding {standing:02x?}")
+    });
+    let kind = kind(&bundle, &standing, &alike);
+    (alike.refusals, kind)
+}
+
+// The form, and of the first step whether it has a message and whether its rule stays in its state; nothing of a refusal.
+fn kind(bundle: &[u8], standing: &[u8], alike: &Alike) -> Option<String> {
+    let first = alike.first.ok()?;
+    let bundle = read(bundle, standing).ok()?;
+    let form = if bundle.counting { "counting" } else { "message" };
+    Some(match first {
+        None => format!("{form} form: none"),
+        Some(step) => {
+            let rule = &bundle.table.rules[usize::from(step.rule)];
+            let message = if step.silent() { "no message" } else { "a message" };
+            format!("{form} form: {message}, {}", if rule.from == rule.to { "stays" } else { "moves" })
+        }
     })
 }
 
-// Agrees with the model on every seed, and the seeds come to every refusal.
+// Agrees with the model on every seed, and the seeds come to every refusal and every kind of first step.
 fn agrees_on_seeds(bench: &(dyn Bench + Sync)) {
     let seeds = seeds("SEEDS", 20_000);
     let mut seen: BTreeMap<u8, usize> = BTreeMap::new();
-    for number in each_seed(seeds, |seed| agrees(bench, seed)).into_iter().flatten() {
-        *seen.entry(number).or_default() += 1;
+    let mut kinds: BTreeMap<String, usize> = BTreeMap::new();
+    for (refusals, kind) in each_seed(seeds, |seed| agrees(bench, seed)) {
+        refusals.into_iter().for_each(|number| *seen.entry(number).or_default() += 1);
+        kind.into_iter().for_each(|kind| *kinds.entry(kind).or_default() += 1);
     }
-    println!("{seeds} bundles, calls by refusal: {seen:?}");
+    println!("{seeds} bundles, calls by refusal: {seen:?}; first steps: {kinds:?}");
+    for form in ["message", "counting"] {
+        for kind in ["none", "no message, moves", "a message, moves", "a message, stays"] {
+            assert!(kinds.contains_key(&format!("{form} form: {kind}")), "{form} form, {kind}: {kinds:?}");
+        }
+        assert!(!kinds.contains_key(&format!("{form} form: no message, stays")), "a wait is given: {kinds:?}");
+    }
     // 40 is the report program's own, 60 and 61 are of drawings.
     for line in refusals::ALL.iter().filter(|line| line.number < 40) {
         assert!(seen.contains_key(&line.number), "no bundle was refused with {}: {seen:?}", line.number);
