@@ -21,7 +21,8 @@ Macaroosh runs a schedule of steps against a threshold table.
   macaroosh run FILE         show the configuration that the schedule leaves
   macaroosh trace FILE       show each step: who sent what to whom, and the
                              counts after it
-  macaroosh first FILE       name the first step that is possible after it
+  macaroosh first FILE       name the first step that is possible after it, or
+                             say that the run is quiet: nothing but waits
   macaroosh translate FILE   write the bundle in the other form, message or
                              counting
   macaroosh draw TABLE       write the table as a drawing, in Graphviz's DOT

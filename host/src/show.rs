@@ -40,7 +40,7 @@ pub fn first_lines(first: First) -> String {
 pub fn first(parts: &Parts, step: Option<Step>) -> String {
     let after = counted(parts.length(), "step");
     match step {
-        None => format!("after {after} no step is possible\n"),
+        None => format!("after {after} the run is quiet: no board can do anything but wait\n"),
         Some(step) => {
             let (from, to) = parts.ends(step.rule).unwrap_or((0, 0));
             let [board, rule, kind, source] = step.record();

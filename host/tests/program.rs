@@ -159,18 +159,28 @@ fn trace_of_two_types_has_their_counts_apart() {
 }
 
 #[test]
-fn first_names_a_step_or_none() {
-    let shown =
-        "after 5 steps the first possible step is: board 0, rule 4 (2 -> 2), no message\nas bytes: 00 04 FF FF\n";
+fn first_names_a_step_or_says_that_the_run_is_quiet() {
+    let shown = "\
+after 5 steps the first possible step is: board 0, rule 4 (2 -> 2), type 0 from board 0
+as bytes: 00 04 00 00
+";
     says(&["first"], "w.bundle", 0, shown, "");
-    says(&["first"], "w-counting.bundle", 0, shown, "");
-    says(&["first", "--plain"], "w.bundle", 0, "result 0 0\nstep 0 4 255 255\n", "");
+    says(&["first"], "w-counting.bundle", 0, &shown.replace("from board 0", "from a correct board"), "");
+    for bundle in ["w.bundle", "w-counting.bundle"] {
+        says(&["first", "--plain"], bundle, 0, "result 0 0\nstep 0 4 0 0\n", "");
+    }
+    let shown = "after 16 steps the run is quiet: no board can do anything but wait\n";
+    says(&["first"], "quiet.bundle", 0, shown, "");
+    says(&["first", "--plain"], "quiet.bundle", 0, "result 0 0\nnone\n", "");
+    let counting = asked(&[OsStr::new("translate"), example("quiet.bundle").as_os_str()]).stdout;
+    assert_eq!(text(&asked_with_input(&["first", "-"], &counting).stdout), shown);
     says(&["first"], "w-echo-twice.bundle", 1, "", TWICE);
     says(&["first", "--plain"], "w-echo-twice.bundle", 1, "result 24 4\nnone\n", "");
     // One state, and its rule asks for a message that nobody sends.
     let quiet = b"\x01\x00\x00\x00\x00\x00\x01\x07\x00\x05\x00\x01\x01\x01\x01\x00\x00\x00\x01\x00\x01\x00\x00\x00";
     let got = asked_with_input(&["first", "-"], quiet);
-    assert_eq!((got.status.code(), text(&got.stdout)), (Some(0), "after 0 steps no step is possible\n"));
+    let shown = "after 0 steps the run is quiet: no board can do anything but wait\n";
+    assert_eq!((got.status.code(), text(&got.stdout)), (Some(0), shown));
     let got = asked_with_input(&["first", "-", "--plain"], quiet);
     assert_eq!((got.status.code(), text(&got.stdout)), (Some(0), "result 0 0\nnone\n"));
 }
@@ -386,7 +396,7 @@ fn a_standing_table_is_read_where_the_bundle_has_none() {
     let w = example("w.bundle");
     let table = fs::read(example("echo.table")).expect("the table");
     let got = asked_with_input(&["first", "--plain", "--standing", "-", w.to_str().expect("a name")], &table);
-    assert_eq!(text(&got.stdout), "result 0 0\nstep 0 4 255 255\n");
+    assert_eq!(text(&got.stdout), "result 0 0\nstep 0 4 0 0\n");
 }
 
 #[test]
