@@ -37,7 +37,9 @@ uint64_t macaroosh_run(const uint8_t *bundle, size_t bundle_length, const uint8_
 uint64_t macaroosh_translate(const uint8_t *bundle, size_t bundle_length, const uint8_t *standing, size_t standing_length,
                              uint8_t *out, size_t out_length);
 
-/* The first step that is possible after the whole schedule. Answers a packed step. */
+/* The first step that is possible after the whole schedule: by board, then rule, then no message before type and source. A
+ * wait, which has no message and whose rule's from is its to, is accepted but is not possible. Answers a packed step; none is
+ * given exactly when no step but waits is accepted there, so that the run has gone quiet, or where there is a refusal. */
 uint64_t macaroosh_first_step(const uint8_t *bundle, size_t bundle_length, const uint8_t *standing, size_t standing_length);
 
 /* Writes a table part as a drawing, a text in Graphviz's DOT language, to the lent bytes, of which MACAROOSH_MOST_DRAWING are

@@ -1,5 +1,5 @@
-/* The header from C: schedule W is run, translated there and back, and asked for its first step; the echo table is drawn and
- * read back; refusals leave lent memory alone. The last line is 'N passed, M failed'. */
+/* The header from C: schedule W is run, translated there and back, and asked for its first step, as is a run that is quiet; the
+ * echo table is drawn and read back; refusals leave lent memory alone. The last line is 'N passed, M failed'. */
 #include "macaroosh.h"
 
 #include <stdio.h>
@@ -18,6 +18,8 @@ static const uint8_t counting[] = {
     0x01, 0x01, 0x01, 0x00, 0x03, 0xFF, 0xFF, 0x01, 0x03, 0xFF, 0xFF, 0x02, 0x03, 0x00, 0x00, 0x02,
     0x04, 0x00, 0x01, 0x02, 0x05, 0x00, 0x00, 0x14, 0x00, 0x17, 0x00, 0x04, 0x01, 0x01, 0x01,
 };
+/* No board has an echo to send and none is faulty: n = 4, t = 1, f = 0, no steps. */
+static const uint8_t quiet[] = {0x00, 0x00, 0x00, 0x00, 0x00, 0x00, 0x04, 0x00, 0x04, 0x01, 0x00, 0x00};
 
 static const char drawing[] =
     "digraph t {\n"
@@ -74,8 +76,10 @@ static void translations(void) {
 static void first_steps(void) {
     uint64_t step = macaroosh_first_step(w, sizeof w, echo, sizeof echo);
     check("a step is possible after W", macaroosh_refusal(step) == 0 && macaroosh_step_given(step));
-    check("it is 00 04 FF FF", macaroosh_step_board(step) == 0 && macaroosh_step_rule(step) == 4 &&
-                                   macaroosh_step_type(step) == 255 && macaroosh_step_source(step) == 255);
+    check("it is 00 04 00 00", macaroosh_step_board(step) == 0 && macaroosh_step_rule(step) == 4 &&
+                                   macaroosh_step_type(step) == 0 && macaroosh_step_source(step) == 0);
+    step = macaroosh_first_step(quiet, sizeof quiet, echo, sizeof echo);
+    check("none where boards only wait", macaroosh_refusal(step) == 0 && !macaroosh_step_given(step));
 }
 
 /* Whether so many bytes are all the same. */
