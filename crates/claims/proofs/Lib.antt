@@ -5,3 +5,5 @@ pub mod FirstStep
 pub mod FirstAgreed
 pub mod Demand3
 pub mod OneAnswer
+pub mod DrawnTable
+pub mod Drawings

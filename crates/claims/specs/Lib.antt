@@ -4,3 +4,4 @@ pub mod Agreed
 pub mod FirstStep
 pub mod Demand3
 pub mod OneAnswer
+pub mod Drawings

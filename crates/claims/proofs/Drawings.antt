@@ -1,0 +1,272 @@
+-- Drawings, from what their texts are read as.
+use mathlib.Core.Path.{_≡_, refl, sym, ap, _∙_}
+use mathlib.Core.Bool.{true, false}
+use mathlib.Core.List.{List, _∷_, _++_}
+use Prim.Native.Nat.{ℕ, zero, suc, _+_, _-_, _*_, _≤_, _<_}
+use native.Mathlib.Omega.{arith}
+use native.Mathlib.Decide.{decLt, ℕ-discrete}
+use lib.ListN.{length, take}
+use borrow.Author.Tests.{eq-eqb, ne-eqb, lt-ltb, le-ltb, le-leb, lt-leb}
+use Rattle.fault.specs.declared.Verdict.{Verdict}
+use Rattle.fault.specs.declared.Answer.{Answer}
+use Rattle.fault.specs.Tests.{_below_, _differs_}
+use Rattle.fault.specs.Fault.{refused, nothingDone, _if_else_}
+use Rattle.fault.proofs.FaultLaws.{if-keeps}
+use Rattle.table.specs.Table.{statesOf, rulesOf, typesOf, factorOf}
+use Rattle.table.specs.Refusals.{tableFault}
+use Rattle.dot.specs.Text.{drawingOf}
+use Rattle.dot.specs.Reading.{Read, Outcome, drawn, fault, reading}
+use Rattle.dot.specs.Drawing.{Tokens, Drawing}
+use Rattle.dot.specs.Blanks.{moved}
+use Rattle.dot.proofs.Place.{read-draws}
+use Rattle.dot.proofs.Written.{table-read, drawing-read}
+use Rattle.dot.proofs.Tokens.{draws-tokens, tokens-read}
+use Rattle.dot.proofs.TokenPlace.{exact-place}
+use Rattle.dot.proofs.Blanks.{blank-inserted}
+use Rattle.drawing.specs.Entry.{trailerOf, tableOf, strange, drawnFault, drawnTable, given, left, drawAnswer, drawBytes, undrawAnswer, undrawBytes}
+use Rattle.claims.specs.Drawings.{Gives, Table, ThereAndBack, NoDrawing, tableIn, Answered, Alike, oneLater, Inserted, Drawings}
+use Rattle.claims.proofs.DrawnTable.{Distances, distances, own-table, sized-counts, made-records, Later, later-0, later-2, later-above, records-later}
+
+-- ---- bytes that are given
+module _ (v : Verdict) (w : List ℕ) where
+  -- nothing is refused
+  gives : v .number ≡ 0 → Gives (given v w) (left v w) w
+  unfolding given left _if_else_
+  gives z = record {
+    answered = λ lent h. rw (eq-eqb (v .number) 0 z, le-ltb lent (length w) h);
+    written = λ out h. rw (eq-eqb (v .number) 0 z, le-ltb (length out) (length w) h);
+    short = λ lent h. rw (eq-eqb (v .number) 0 z, lt-ltb lent (length w) h);
+    kept = λ out h. rw (eq-eqb (v .number) 0 z, lt-ltb (length out) (length w) h);
+  }
+
+  -- something is
+  refuses : (v .number ≡ 0 → ⊥) → (lent : ℕ) → given v w lent ≡ nothingDone v
+  unfolding given _if_else_
+  refuses n lent = rw (ne-eqb (v .number) 0 n)
+
+  keeps : (v .number ≡ 0 → ⊥) → (out : List ℕ) → left v w out ≡ out
+  unfolding left _if_else_
+  keeps n out = rw (ne-eqb (v .number) 0 n)
+
+  -- where the answer is a refusal, nothing is done
+  given-kept : (out : List ℕ) → (given v w (length out) .refusal ≡ 0 → ⊥) → (left v w out ≡ out) × (given v w (length out) .count ≡ 0)
+  given-kept out n =
+      elim (ℕ-discrete (v .number) 0) [
+        | no y ↦ (keeps y out, ap (λ (a : Answer). a .count) (refuses y (length out)))
+        | yes z ↦ elim (decLt (length out) (length w)) [
+          | yes l ↦ (gives z .kept out l, ap (λ (a : Answer). a .count) (gives z .short (length out) l))
+          | no y ↦ absurd (n (ap (λ (a : Answer). a .refusal) (gives z .answered (length out) (omega arith))))
+        ]
+      ]
+
+  -- the answer's number is that of v, 61 or 0
+  given-later : Later (v .number) → (lent : ℕ) → Later (given v w lent .refusal)
+  unfolding given
+  given-later h lent =
+      if-keeps (λ (a : Answer). Later (a .refusal)) (nothingDone v) (v .number differs 0) _ (λ _. h)
+      (λ _. if-keeps (λ (a : Answer). Later (a .refusal)) (nothingDone (refused 61)) (lent below length w) _ (λ _. later-above 61 (omega arith) (λ z. omega arith)) (λ _. later-0))
+
+-- ---- a text by what it is read as
+module _ (t : List ℕ) (o : Outcome) (e : reading t ≡ o) where
+  answers : (lent : ℕ) → undrawAnswer t lent ≡ given (drawnFault o) (drawnTable o) lent
+  unfolding undrawAnswer
+  answers lent = rw e
+
+  leaves : (out : List ℕ) → undrawBytes t out ≡ left (drawnFault o) (drawnTable o) out
+  unfolding undrawBytes
+  leaves out = rw e
+
+  undraw-refuses : (drawnFault o .number ≡ 0 → ⊥) → (lent : ℕ) → undrawAnswer t lent ≡ nothingDone (drawnFault o)
+  undraw-refuses n lent = answers lent ∙ refuses (drawnFault o) (drawnTable o) n lent
+
+  undraw-keeps : (drawnFault o .number ≡ 0 → ⊥) → (out : List ℕ) → undrawBytes t out ≡ out
+  undraw-keeps n out = leaves out ∙ keeps (drawnFault o) (drawnTable o) n out
+
+  undraw-gives : drawnFault o .number ≡ 0 → Gives (undrawAnswer t) (undrawBytes t) (drawnTable o)
+  undraw-gives z =
+      let g = gives (drawnFault o) (drawnTable o) z in
+      record {
+        answered = λ lent h. answers lent ∙ g .answered lent h;
+        written = λ out h. leaves out ∙ g .written out h;
+        short = λ lent h. answers lent ∙ g .short lent h;
+        kept = λ out h. leaves out ∙ g .kept out h;
+      }
+
+-- ---- what was read
+module _ (r : Read) where
+  read-strange : strange (r .states) (r .rules) (r .types) (r .factor) ≡ true → drawnFault (drawn r) ≡ refused 2
+  unfolding drawnFault _if_else_
+  read-strange h = rw h
+
+  read-fine : strange (r .states) (r .rules) (r .types) (r .factor) ≡ false → drawnFault (drawn r) ≡ tableFault (tableOf r)
+  unfolding drawnFault _if_else_
+  read-fine h = rw h
+
+  read-later : length (r .body) ≡ 2 * r .states + r .rules * (2 + 3 * r .types) → Later (drawnFault (drawn r) .number)
+  unfolding drawnFault tableOf
+  read-later l =
+      if-keeps (λ (v : Verdict). Later (v .number)) (refused 2) (strange (r .states) (r .rules) (r .types) (r .factor)) (tableFault (tableOf r)) (λ _. later-2)
+      (λ h. rw (made-records (r .body) (r .states) (r .rules) (r .types) (r .factor) l h) (records-later (tableOf r)))
+
+-- a text read as the table s, whose counts are a table's
+gives-back : (t s : List ℕ) (r : Read) → reading t ≡ drawn r → strange (r .states) (r .rules) (r .types) (r .factor) ≡ false → tableOf r ≡ s → tableFault s .number ≡ 0 →
+    Gives (undrawAnswer t) (undrawBytes t) s
+unfolding drawnTable
+gives-back t s r e h f z =
+    rw f at (undraw-gives t (drawn r) e (ap (λ (v : Verdict). v .number) (read-fine r h) ∙ ap (λ (w : List ℕ). tableFault w .number) f ∙ z))
+
+read-drawing : (t : List ℕ) (r : Read) → reading t ≡ drawn r → Drawing t
+read-drawing t r e =
+    record { types = r .types; factor = r .factor; states = r .states; rules = r .rules; body = r .body; tokens = draws-tokens t r (read-draws t r e) }
+
+-- ---- there and back
+module _ (s : List ℕ) (a : Table s) where
+  far : Distances s
+  far = distances s (a .clean)
+
+  own-drawing : (l : ℕ) × (reading (drawingOf s) ≡ drawn (record { types = typesOf s; factor = factorOf s; states = statesOf s; rules = rulesOf s; last = l; body = take (length s - 8) s }))
+  own-drawing = drawing-read s (far .sizes) (a .all-bytes)
+
+  back-from : (t : List ℕ) (l x : ℕ) → x ≡ length s - 8 →
+      reading t ≡ drawn (record { types = typesOf s; factor = factorOf s; states = statesOf s; rules = rulesOf s; last = l; body = take x s }) →
+      Gives (undrawAnswer t) (undrawBytes t) s
+  unfolding tableOf
+  back-from t l x w e =
+      gives-back t s _ e (sized-counts s (far .sizes))
+      (ap (λ (y : ℕ). take y s ++ trailerOf (statesOf s) (rulesOf s) (typesOf s) (factorOf s)) w ∙ own-table s far (a .all-bytes)) (a .clean)
+
+  both-ways : ThereAndBack s
+  unfolding drawAnswer drawBytes
+  both-ways =
+      let z = far .sizes in
+      let o = table-read (typesOf s) (factorOf s) (statesOf s) (rulesOf s) s (omega (arith, z .few-types)) (omega (arith, z .few-factor)) (omega (arith, z .few-states))
+      (a .all-bytes) (omega (arith, z .whole)) in
+      record {
+        drawn = gives (tableFault s) (drawingOf s) (a .clean);
+        drawing = read-drawing (drawingOf s) _ (own-drawing .1);
+        back = back-from (drawingOf s) (own-drawing .0) (length s - 8) refl (own-drawing .1);
+        spaced = λ t x. back-from t (o .0) (2 * statesOf s + rulesOf s * (2 + 3 * typesOf s)) (omega (arith, z .whole)) (o .1 t x);
+      }
+
+-- ---- no drawing
+module _ (t : List ℕ) (p : ℕ) (e : reading t ≡ fault p) where
+  says-60 : (lent : ℕ) → undrawAnswer t lent ≡ record { refusal = 60; place = p; count = 0 }
+  unfolding drawnFault
+  says-60 = undraw-refuses t (fault p) e (λ z. omega arith)
+
+  keeps-60 : (out : List ℕ) → undrawBytes t out ≡ out
+  unfolding drawnFault
+  keeps-60 = undraw-keeps t (fault p) e (λ z. omega arith)
+
+none-drawn : (t : List ℕ) → (Drawing t → ⊥) → NoDrawing t
+none-drawn t n = go (reading t) refl
+  where
+    go : (o : Outcome) → reading t ≡ o → NoDrawing t
+    go (drawn r) e = absurd (n (read-drawing t r e))
+    go (fault p) e = record { place = p; exact = exact-place t p e; answered = says-60 t p e; kept = keeps-60 t p e }
+
+-- ---- a drawing
+answered-as : (t : List ℕ) (d : Drawing t) → Answered t d
+unfolding tableOf
+answered-as t d =
+    let e = tokens-read t (d .types) (d .factor) (d .states) (d .rules) (d .body) (d .tokens) in
+    let r : Read = record { types = d .types; factor = d .factor; states = d .states; rules = d .rules; last = e .0; body = d .body } in
+    let y : (lent : ℕ) → Later (undrawAnswer t lent .refusal) = λ lent. rw (answers t (drawn r) (e .1) lent) (given-later (drawnFault (drawn r)) (drawnTable (drawn r)) (read-later r (d .tokens .whole)) lent) in
+    record {
+      counts = λ h lent. undraw-refuses t (drawn r) (e .1) (λ z. absurd (let q = sym (ap (λ (v : Verdict). v .number) (read-strange r h)) ∙ z in omega (arith, q))) lent ∙ ap nothingDone (read-strange r h);
+      off = λ h n lent. undraw-refuses t (drawn r) (e .1) (λ z. n (sym (ap (λ (v : Verdict). v .number) (read-fine r h)) ∙ z)) lent ∙ ap nothingDone (read-fine r h);
+      table = λ h z. gives-back t (tableIn d) r (e .1) h refl z;
+      never-1 = λ lent. y lent .not-1;
+      never-3 = λ lent. y lent .not-3;
+      never-60 = λ lent. y lent .not-60;
+    }
+
+-- ---- blanks
+same-answers : (t u : List ℕ) (T k n m : ℕ) (s : List ℕ) → Tokens t T k n m s → Tokens u T k n m s → Alike t u
+unfolding drawnFault drawnTable tableOf
+same-answers t u T k n m s a b =
+    let e = tokens-read t T k n m s a in
+    let f = tokens-read u T k n m s b in
+    record {
+      answer = λ lent. answers t _ (e .1) lent ∙ sym (answers u _ (f .1) lent);
+      bytes = λ out. leaves t _ (e .1) out ∙ sym (leaves u _ (f .1) out);
+    }
+
+-- a fault at or after the byte put in, and one before it
+moved-after : (n f : ℕ) → n ≤ f → moved n (fault f) ≡ fault (suc f)
+moved-after zero f h = refl
+moved-after (suc n) zero h = absurd (omega arith)
+moved-after (suc n) (suc f) h = rw (moved-after n f (omega arith))
+
+moved-before : (n f : ℕ) → f < n → moved n (fault f) ≡ fault f
+moved-before zero f h = absurd (omega arith)
+moved-before (suc n) zero h = refl
+moved-before (suc n) (suc f) h = rw (moved-before n f (omega arith))
+
+-- the answers' side of it
+stays : (n : ℕ) (a : Answer) → (a .refusal ≡ 60 → ⊥) → oneLater n a ≡ a
+unfolding oneLater _if_else_
+stays n a h = rw (ne-eqb (a .refusal) 60 h)
+
+grows : (n : ℕ) (a : Answer) → a .refusal ≡ 60 → n ≤ a .place → oneLater n a ≡ record { refusal = 60; place = a .place + 1; count = 0 }
+unfolding oneLater _if_else_
+grows n a h l = rw (eq-eqb (a .refusal) 60 h, le-leb n (a .place) l)
+
+stays-before : (n : ℕ) (a : Answer) → a .refusal ≡ 60 → a .place < n → oneLater n a ≡ a
+unfolding oneLater _if_else_
+stays-before n a h l = rw (eq-eqb (a .refusal) 60 h, lt-leb n (a .place) l)
+
+abbrev sixty : ℕ → Answer
+sixty x = record { refusal = 60; place = x; count = 0 }
+
+suc-is : (x : ℕ) → suc x ≡ x + 1
+suc-is x = omega arith
+
+module _ (p q : List ℕ) (c : ℕ) (moves : reading (p ++ (c ∷ q)) ≡ moved (length p) (reading (p ++ q))) where
+  -- read as a table, both
+  put-drawn : (r : Read) → reading (p ++ q) ≡ drawn r → Inserted p q c
+  put-drawn r e =
+      let f : reading (p ++ (c ∷ q)) ≡ drawn r = moves ∙ ap (moved (length p)) e in
+      record {
+        answer = λ lent.
+            answers (p ++ (c ∷ q)) (drawn r) f lent ∙ sym (answers (p ++ q) (drawn r) e lent) ∙
+            sym (stays (length p) (undrawAnswer (p ++ q) lent) (answered-as (p ++ q) (read-drawing (p ++ q) r e) .never-60 lent));
+        bytes = λ out. leaves (p ++ (c ∷ q)) (drawn r) f out ∙ sym (leaves (p ++ q) (drawn r) e out);
+      }
+
+  -- or with a fault
+  put-before : (x : ℕ) → reading (p ++ q) ≡ fault x → x < length p → Inserted p q c
+  put-before x e l =
+      let f : reading (p ++ (c ∷ q)) ≡ fault x = moves ∙ ap (moved (length p)) e ∙ moved-before (length p) x l in
+      record {
+        answer = λ lent. says-60 _ x f lent ∙ sym (ap (oneLater (length p)) (says-60 _ x e lent) ∙ stays-before (length p) _ refl l);
+        bytes = λ out. keeps-60 _ x f out ∙ sym (keeps-60 _ x e out);
+      }
+
+  put-after : (x : ℕ) → reading (p ++ q) ≡ fault x → length p ≤ x → Inserted p q c
+  put-after x e l =
+      let f : reading (p ++ (c ∷ q)) ≡ fault (suc x) = moves ∙ ap (moved (length p)) e ∙ moved-after (length p) x l in
+      record {
+        answer = λ lent. says-60 _ (suc x) f lent ∙ ap sixty (suc-is x) ∙ sym (ap (oneLater (length p)) (says-60 _ x e lent) ∙ grows (length p) _ refl l);
+        bytes = λ out. keeps-60 _ (suc x) f out ∙ sym (keeps-60 _ x e out);
+      }
+
+  put-in : Inserted p q c
+  put-in = go (reading (p ++ q)) refl
+    where
+      go : (o : Outcome) → reading (p ++ q) ≡ o → Inserted p q c
+      go (drawn r) e = put-drawn r e
+      go (fault x) e = elim (decLt x (length p)) [ yes l ↦ put-before x e l | no n ↦ put-after x e (omega arith) ]
+
+-- ---- all of it
+pub drawings : Drawings
+unfolding drawAnswer drawBytes undrawAnswer undrawBytes
+drawings = record {
+  there-and-back = both-ways;
+  no-drawing = none-drawn;
+  drawing = answered-as;
+  same-tokens = same-answers;
+  blank = λ p q c h b. put-in p q c (blank-inserted p q c h b);
+  draw-kept = λ s out. given-kept (tableFault s) (drawingOf s) out;
+  undraw-kept = λ t out. given-kept (drawnFault (reading t)) (drawnTable (reading t)) out;
+}

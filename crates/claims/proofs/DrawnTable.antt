@@ -1,0 +1,194 @@
+-- The trailer of a drawn table: its eight bytes are those of the table, its distances are right, and what is then refused is none of 1, 3, 60.
+use mathlib.Core.Path.{_≡_, refl, sym, ap, _∙_}
+use mathlib.Core.Bool.{Bool, true, false, cond, _||_}
+use mathlib.Core.List.{List, [], _∷_, _++_}
+use Prim.Native.Nat.{ℕ, zero, suc, _+_, _-_, _*_, _/_, _%_, _≤_, _<_}
+use native.Mathlib.Omega.{arith}
+use lib.Dec.{eqb}
+use lib.ListN.{length, take, drop, length-append, take-append-drop, drop-of-length-le}
+use lib.Seq.{drop-cons, getD-append-add}
+use borrow.Author.Tests.{eq-eqb, le-ltb}
+use Rattle.fault.specs.declared.Verdict.{Verdict}
+use Rattle.fault.specs.Bytes.{byteAt}
+use Rattle.fault.specs.Tests.{_differs_, outside}
+use Rattle.fault.specs.Fault.{fine, verdict, refused, _if_else_, _▹_, firstFault}
+use Rattle.fault.proofs.FaultLaws.{if-keeps, if-passed, Clean}
+use Rattle.fault.proofs.TestLaws.{or-none, same}
+use Rattle.table.specs.Table.{stateDistance, ruleDistance, statesOf, rulesOf, typesOf, factorOf, ruleSize}
+use Rattle.table.specs.Refusals.{tooShort, countsOff, distancesOff, noInitial, noState, forgets, sendsTwo, stateOff, stateFault, ruleFault, recordsFault, tableFault}
+use Rattle.table.specs.Facts.{Sized}
+use Rattle.table.proofs.TableLaws.{sized}
+use Rattle.drawing.specs.Entry.{trailerOf, strange}
+
+-- ---- a table's own trailer
+-- its distances are those of its counts
+pub record Distances (s : List ℕ) : Type 0 where
+  pub sizes : Sized s
+  pub to-states : stateDistance s ≡ 2 * statesOf s + rulesOf s * ruleSize s
+  pub to-rules : ruleDistance s ≡ rulesOf s * ruleSize s
+
+pub distances : (s : List ℕ) → Clean (tableFault s) → Distances s
+unfolding tableFault distancesOff
+distances s h =
+    let a = if-passed Clean (refused 1) (tooShort s) _ (λ z. omega arith) h in
+    let b = if-passed Clean (refused 2) (countsOff s) _ (λ z. omega arith) (a .1) in
+    let d = if-passed Clean (refused 3) (distancesOff s) _ (λ z. omega arith) (b .1) in
+    let e = or-none (stateDistance s differs 2 * statesOf s + rulesOf s * ruleSize s || ruleDistance s differs rulesOf s * ruleSize s) _ (d .0) in
+    let f = or-none (stateDistance s differs 2 * statesOf s + rulesOf s * ruleSize s) _ (e .0) in
+    record { sizes = sized s (a .0) (b .0) (d .0); to-states = same _ _ (f .0); to-rules = same _ _ (f .1) }
+
+-- a list's last eight
+last-eight : (s : List ℕ) (x : ℕ) → length s ≡ x + 8 →
+    drop (x + 0) s ≡ byteAt s (x + 0) ∷ byteAt s (x + 1) ∷ byteAt s (x + 2) ∷ byteAt s (x + 3) ∷ byteAt s (x + 4) ∷ byteAt s (x + 5) ∷ byteAt s (x + 6) ∷ byteAt s (x + 7) ∷ []
+last-eight s x e =
+    one 0 (omega arith) ∙ ap (_∷_ (byteAt s (x + 0))) (
+    one 1 (omega arith) ∙ ap (_∷_ (byteAt s (x + 1))) (
+    one 2 (omega arith) ∙ ap (_∷_ (byteAt s (x + 2))) (
+    one 3 (omega arith) ∙ ap (_∷_ (byteAt s (x + 3))) (
+    one 4 (omega arith) ∙ ap (_∷_ (byteAt s (x + 4))) (
+    one 5 (omega arith) ∙ ap (_∷_ (byteAt s (x + 5))) (
+    one 6 (omega arith) ∙ ap (_∷_ (byteAt s (x + 6))) (
+    one 7 (omega arith) ∙ ap (_∷_ (byteAt s (x + 7))) (drop-of-length-le s {i = x + 8} (omega arith)))))))))
+  where
+    one : (i : ℕ) → i < 8 → drop (x + i) s ≡ byteAt s (x + i) ∷ drop (x + (i + 1)) s
+    one i l =
+        let z : suc (x + i) ≡ x + (i + 1) = omega arith in
+        drop-cons s (x + i) 0 (omega arith) ∙ ap (λ (y : ℕ). byteAt s (x + i) ∷ drop y s) z
+
+-- the trailer that a drawing of its counts is given is its own
+pub own-trailer : (s : List ℕ) → Distances s → ((x : ℕ) → byteAt s x < 256) → drop (length s - 8) s ≡ trailerOf (statesOf s) (rulesOf s) (typesOf s) (factorOf s)
+unfolding trailerOf
+own-trailer s d all =
+    let x = length s - 8 in
+    let z : length s ≡ x + 8 = omega (arith, d .sizes .long) in
+    let o : x + 0 ≡ x = omega arith in
+    let i₁ : x + 0 + 1 ≡ x + 1 = omega arith in
+    let i₃ : x + 2 + 1 ≡ x + 3 = omega arith in
+    let u : byteAt s (x + 0) + 256 * byteAt s (x + 1) ≡ 2 * statesOf s + rulesOf s * ruleSize s = rw i₁ at (d .to-states) in
+    let v : byteAt s (x + 2) + 256 * byteAt s (x + 3) ≡ rulesOf s * ruleSize s = rw i₃ at (d .to-rules) in
+    let b₀ : byteAt s (x + 0) ≡ (2 * statesOf s + rulesOf s * ruleSize s) % 256 = omega (arith, u, all (x + 0)) in
+    let b₁ : byteAt s (x + 1) ≡ (2 * statesOf s + rulesOf s * ruleSize s) / 256 = omega (arith, u, all (x + 0)) in
+    let b₂ : byteAt s (x + 2) ≡ (rulesOf s * ruleSize s) % 256 = omega (arith, v, all (x + 2)) in
+    let b₃ : byteAt s (x + 3) ≡ (rulesOf s * ruleSize s) / 256 = omega (arith, v, all (x + 2)) in
+    ap (λ (y : ℕ). drop y s) (sym o) ∙ last-eight s x z ∙
+    (λ i. b₀ i ∷ b₁ i ∷ b₂ i ∷ b₃ i ∷ byteAt s (x + 4) ∷ byteAt s (x + 5) ∷ byteAt s (x + 6) ∷ byteAt s (x + 7) ∷ [])
+
+-- its records and that trailer are the table
+pub own-table : (s : List ℕ) → Distances s → ((x : ℕ) → byteAt s x < 256) → take (length s - 8) s ++ trailerOf (statesOf s) (rulesOf s) (typesOf s) (factorOf s) ≡ s
+own-table s d all = ap (λ (w : List ℕ). take (length s - 8) s ++ w) (sym (own-trailer s d all)) ∙ take-append-drop (length s - 8) s
+
+-- counts that a table has are not strange
+within : (lo hi x : ℕ) → lo ≤ x → x ≤ hi → outside lo hi x ≡ false
+within lo hi x a b = rw (le-ltb x lo a, le-ltb hi x b)
+
+pub sized-counts : (s : List ℕ) → Sized s → strange (statesOf s) (rulesOf s) (typesOf s) (factorOf s) ≡ false
+unfolding strange
+sized-counts s z =
+    rw (
+      within 1 16 (statesOf s) (z .some-state) (z .few-states),
+      within 1 64 (rulesOf s) (z .some-rule) (z .few-rules),
+      within 1 4 (typesOf s) (z .some-type) (z .few-types),
+      within 1 8 (factorOf s) (z .some-factor) (z .few-factor),
+    )
+
+-- ---- the table of a drawing
+module _ (w : List ℕ) (n m T k : ℕ) (e : length w ≡ 2 * n + m * (2 + 3 * T)) where
+  abbrev made : List ℕ
+  made = w ++ trailerOf n m T k
+
+  made-long : length made ≡ length w + 8
+  unfolding trailerOf
+  made-long = length-append w (trailerOf n m T k)
+
+  made-at : (i : ℕ) → byteAt made (length made - 8 + i) ≡ byteAt (trailerOf n m T k) i
+  made-at i = let z : length made - 8 ≡ length w = omega (arith, made-long) in rw z (getD-append-add w (trailerOf n m T k) i 0)
+
+  made-next : (i : ℕ) → byteAt made (length made - 8 + i + 1) ≡ byteAt (trailerOf n m T k) (i + 1)
+  made-next i = let z : length made - 8 + i + 1 ≡ length made - 8 + (i + 1) = omega arith in rw z (made-at (i + 1))
+
+  pub made-enough : tooShort made ≡ false
+  unfolding tooShort
+  made-enough = le-ltb (length made) 8 (omega (arith, made-long))
+
+  pub made-counts : countsOff made ≡ strange n m T k
+  unfolding countsOff strange trailerOf
+  made-counts = rw (made-at 4, made-at 5, made-at 6, made-at 7)
+
+  to-states : stateDistance made ≡ 2 * n + m * (2 + 3 * T)
+  unfolding trailerOf
+  to-states = rw (made-at 0, made-next 0) (omega arith)
+
+  to-rules : ruleDistance made ≡ m * (2 + 3 * T)
+  unfolding trailerOf
+  to-rules = rw (made-at 2, made-next 2) (omega arith)
+
+  pub made-distances : distancesOff made ≡ false
+  unfolding distancesOff trailerOf
+  made-distances =
+      rw (
+        to-states,
+        to-rules,
+        made-at 4,
+        made-at 5,
+        made-at 6,
+        made-long,
+        e,
+        eq-eqb (2 * n + m * (2 + 3 * T)) (2 * n + m * (2 + 3 * T)) refl,
+        eq-eqb (m * (2 + 3 * T)) (m * (2 + 3 * T)) refl,
+        eq-eqb (2 * n + m * (2 + 3 * T) + 8) (2 * n + m * (2 + 3 * T) + 8) refl,
+      )
+
+  -- its trailer is not refused
+  pub made-records : strange n m T k ≡ false → tableFault made ≡ recordsFault made
+  unfolding tableFault _if_else_
+  made-records h = rw (made-enough, made-counts, h, made-distances)
+
+-- ---- refusals of records
+-- none of 1, 3, 60
+pub record Later (k : ℕ) : Type 0 where
+  pub not-1 : k ≡ 1 → ⊥
+  pub not-3 : k ≡ 3 → ⊥
+  pub not-60 : k ≡ 60 → ⊥
+
+pub later-0 : Later 0
+later-0 = record { not-1 = λ z. omega arith; not-3 = λ z. omega arith; not-60 = λ z. omega arith }
+
+pub later-2 : Later 2
+later-2 = record { not-1 = λ z. omega arith; not-3 = λ z. omega arith; not-60 = λ z. omega arith }
+
+pub later-above : (k : ℕ) → 4 ≤ k → (k ≡ 60 → ⊥) → Later k
+later-above k h n = record { not-1 = λ z. omega arith; not-3 = λ z. omega arith; not-60 = n }
+
+then-later : (v w : Verdict) → Later (v .number) → Later (w .number) → Later ((v ▹ w) .number)
+unfolding _▹_
+then-later v w a b = go (eqb (v .number) 0)
+  where
+    go : (t : Bool) → Later (cond t w v .number)
+    go true = b
+    go false = a
+
+first-later : (f : ℕ → ℕ) → ((i : ℕ) → Later (f i)) → (n : ℕ) → Later (firstFault f n .number)
+unfolding firstFault
+first-later f h zero = later-0
+first-later f h (suc n) =
+    then-later (firstFault f n) _ (first-later f h n)
+    (if-keeps (λ (v : Verdict). Later (v .number)) fine (eqb (f n) 0) (verdict (f n) n) (λ _. later-0) (λ _. h n))
+
+module _ (s : List ℕ) where
+  state-later : (i : ℕ) → Later (stateFault s i)
+  unfolding stateFault
+  state-later i = if-keeps Later 4 (stateOff s i) 0 (λ _. later-above 4 (omega arith) (λ z. omega arith)) (λ _. later-0)
+
+  rule-later : (r : ℕ) → Later (ruleFault s r)
+  unfolding ruleFault
+  rule-later r =
+      if-keeps Later 6 (noState s r) _ (λ _. later-above 6 (omega arith) (λ z. omega arith))
+      (λ _. if-keeps Later 7 (forgets s r) _ (λ _. later-above 7 (omega arith) (λ z. omega arith))
+      (λ _. if-keeps Later 8 (sendsTwo s r) 0 (λ _. later-above 8 (omega arith) (λ z. omega arith)) (λ _. later-0)))
+
+  pub records-later : Later (recordsFault s .number)
+  unfolding recordsFault
+  records-later =
+      then-later (firstFault (stateFault s) (statesOf s)) _ (first-later (stateFault s) state-later (statesOf s))
+      (if-keeps (λ (v : Verdict). Later (v .number)) (refused 5) (noInitial s) (firstFault (ruleFault s) (rulesOf s))
+      (λ _. later-above 5 (omega arith) (λ z. omega arith)) (λ _. first-later (ruleFault s) rule-later (rulesOf s)))

@@ -1,0 +1,103 @@
+-- Drawings of a table (Q-1, "Prove"), as the two calls see them: there and back, with any blanks; 60 and its place; what a drawing is answered;
+-- what one blank more changes. Proofs: proofs/Drawings.antt.
+use mathlib.Core.Path.{_≡_}
+use mathlib.Core.Bool.{true, false, _&&_}
+use mathlib.Core.List.{List, _∷_, _++_}
+use Prim.Native.Nat.{ℕ, _+_, _≤_, _<_}
+use lib.Dec.{eqb}
+use lib.ListN.{length, drop}
+use Rattle.fault.specs.declared.Answer.{Answer}
+use Rattle.fault.specs.Bytes.{byteAt}
+use Rattle.fault.specs.Tests.{_atMost_}
+use Rattle.fault.specs.Fault.{refused, nothingDone, _if_else_}
+use Rattle.table.specs.Table.{statesOf, rulesOf, typesOf, factorOf}
+use Rattle.table.specs.Refusals.{tableFault}
+use Rattle.dot.specs.Text.{isBlank, Spaced, tableText, drawingOf}
+use Rattle.dot.specs.Plan.{header}
+use Rattle.dot.specs.Reading.{none, nothingRead}
+use Rattle.dot.specs.Drawing.{Tokens, Drawing, Exact}
+use Rattle.dot.specs.Blanks.{reach, BetweenAt}
+use Rattle.drawing.specs.Entry.{trailerOf, strange, drawAnswer, drawBytes, undrawAnswer, undrawBytes}
+
+-- a call that answers and leaves lent bytes gives w: into any bytes that are enough, and those past it stay; into fewer nothing, with 61
+pub record Gives (answer : ℕ → Answer) (bytes : List ℕ → List ℕ) (w : List ℕ) : Type 0 where
+  pub answered : (lent : ℕ) → length w ≤ lent → answer lent ≡ record { refusal = 0; place = 0; count = length w }
+  pub written : (out : List ℕ) → length w ≤ length out → bytes out ≡ w ++ drop (length w) out
+  pub short : (lent : ℕ) → lent < length w → answer lent ≡ nothingDone (refused 61)
+  pub kept : (out : List ℕ) → length out < length w → bytes out ≡ out
+
+-- ---- there and back
+-- a table: bytes in which nothing is refused
+pub record Table (s : List ℕ) : Type 0 where
+  pub all-bytes : (x : ℕ) → byteAt s x < 256
+  pub clean : tableFault s .number ≡ 0
+
+pub record ThereAndBack (s : List ℕ) : Type 0 where
+  -- its drawing is written, and is one
+  pub drawn : Gives (drawAnswer s) (drawBytes s) (drawingOf s)
+  pub drawing : Drawing (drawingOf s)
+  -- undrawing it gives the same bytes
+  pub back : Gives (undrawAnswer (drawingOf s)) (undrawBytes (drawingOf s)) s
+  -- and so with any blanks between the drawing's tokens
+  pub spaced : (t : List ℕ) → Spaced (tableText (typesOf s) (factorOf s) (statesOf s) (rulesOf s) s) t → Gives (undrawAnswer t) (undrawBytes t) s
+
+-- ---- a text that is no drawing: 60 with its exact place, whatever the room, and no byte changes
+pub record NoDrawing (t : List ℕ) : Type 0 where
+  pub place : ℕ
+  pub exact : Exact t place
+  pub answered : (lent : ℕ) → undrawAnswer t lent ≡ record { refusal = 60; place = place; count = 0 }
+  pub kept : (out : List ℕ) → undrawBytes t out ≡ out
+
+-- ---- a drawing d
+-- the table that it draws
+abbrev pub tableIn : {t : List ℕ} → Drawing t → List ℕ
+tableIn d = d .body ++ trailerOf (d .states) (d .rules) (d .types) (d .factor)
+
+pub record Answered (t : List ℕ) (d : Drawing t) : Type 0 where
+  -- 2 where a count or k is none of a table
+  pub counts : strange (d .states) (d .rules) (d .types) (d .factor) ≡ true → (lent : ℕ) → undrawAnswer t lent ≡ nothingDone (refused 2)
+  -- else what the table is refused for
+  pub off : strange (d .states) (d .rules) (d .types) (d .factor) ≡ false → (tableFault (tableIn d) .number ≡ 0 → ⊥) →
+      (lent : ℕ) → undrawAnswer t lent ≡ nothingDone (tableFault (tableIn d))
+  -- else the table
+  pub table : strange (d .states) (d .rules) (d .types) (d .factor) ≡ false → tableFault (tableIn d) .number ≡ 0 →
+      Gives (undrawAnswer t) (undrawBytes t) (tableIn d)
+  -- its trailer is always right, and it is a drawing
+  pub never-1 : (lent : ℕ) → undrawAnswer t lent .refusal ≡ 1 → ⊥
+  pub never-3 : (lent : ℕ) → undrawAnswer t lent .refusal ≡ 3 → ⊥
+  pub never-60 : (lent : ℕ) → undrawAnswer t lent .refusal ≡ 60 → ⊥
+
+-- ---- blanks
+-- two texts are undrawn alike
+pub record Alike (t u : List ℕ) : Type 0 where
+  pub answer : (lent : ℕ) → undrawAnswer t lent ≡ undrawAnswer u lent
+  pub bytes : (out : List ℕ) → undrawBytes t out ≡ undrawBytes u out
+
+-- after p a token has ended, and q begins another; or a fault came before
+abbrev pub BetweenTokens : List ℕ → List ℕ → Type 0
+BetweenTokens p q = BetweenAt (reach p header nothingRead none) q
+
+-- the answer with one byte more in the text at n: a 60 there or later stands one later
+unfoldable pub oneLater : ℕ → Answer → Answer
+oneLater n a = record { refusal = 60; place = a .place + 1; count = 0 } if eqb (a .refusal) 60 && n atMost a .place else a
+
+-- a byte c put in between p and q
+pub record Inserted (p q : List ℕ) (c : ℕ) : Type 0 where
+  pub answer : (lent : ℕ) → undrawAnswer (p ++ c ∷ q) lent ≡ oneLater (length p) (undrawAnswer (p ++ q) lent)
+  pub bytes : (out : List ℕ) → undrawBytes (p ++ c ∷ q) out ≡ undrawBytes (p ++ q) out
+
+-- ---- all of it
+pub record Drawings : Type 0 where
+  -- Q-1: undrawing the drawing of a table gives the same bytes
+  pub there-and-back : (s : List ℕ) → Table s → ThereAndBack s
+  -- Q-1: 60 exactly where the text is no drawing, and its place is exact (for the other direction `Answered .never-60`)
+  pub no-drawing : (t : List ℕ) → (Drawing t → ⊥) → NoDrawing t
+  -- Q-1: a drawing is answered as the table that it draws
+  pub drawing : (t : List ℕ) (d : Drawing t) → Answered t d
+  -- Q-1: blanks added between tokens change no answer of a drawing
+  pub same-tokens : (t u : List ℕ) (T k n m : ℕ) (s : List ℕ) → Tokens t T k n m s → Tokens u T k n m s → Alike t u
+  -- Q-1: and of no text more than the place of a fault that comes after them
+  pub blank : (p q : List ℕ) (c : ℕ) → isBlank c ≡ true → BetweenTokens p q → Inserted p q c
+  -- any refusal writes nothing
+  pub draw-kept : (s out : List ℕ) → (drawAnswer s (length out) .refusal ≡ 0 → ⊥) → (drawBytes s out ≡ out) × (drawAnswer s (length out) .count ≡ 0)
+  pub undraw-kept : (t out : List ℕ) → (undrawAnswer t (length out) .refusal ≡ 0 → ⊥) → (undrawBytes t out ≡ out) × (undrawAnswer t (length out) .count ≡ 0)
