@@ -8,32 +8,43 @@ use denote.Ref.{RefT, now}
 use Rattle.engine.proofs.run.Reads as run
 use Rattle.translate.proofs.translate.Reads as translate
 use Rattle.first_step.proofs.first_step.Reads as first-step
+use Rattle.drawing.proofs.draw.Reads as draw
+use Rattle.drawing.proofs.undraw.Reads as undraw
 use Rattle.capi.proofs.macaroosh_run.Reads as c-run
 use Rattle.capi.proofs.macaroosh_translate.Reads as c-translate
 use Rattle.capi.proofs.macaroosh_first_step.Reads as c-first-step
 
--- a bundle and a standing table, as a call leaves them
+-- two buffers as a call leaves them: a bundle and a standing table; or a table or a text, and lent bytes
 abbrev pub Two : Type 0
 Two = RefT (List ℕ) × (RefT (List ℕ) × Unit {0})
 
--- and lent words or bytes
+-- three: a bundle, a standing table, and lent words or bytes
 abbrev pub Three : Type 0
 Three = RefT (List ℕ) × (RefT (List ℕ) × (RefT (List ℕ) × Unit {0}))
 
-abbrev pub left : Three → List ℕ
-left s = now (s .1 .1 .0)
+-- what was lent
+abbrev pub second : Two → List ℕ
+second s = now (s .1 .0)
+
+abbrev pub third : Three → List ℕ
+third s = now (s .1 .1 .0)
 
 -- a contract of input a, answer r and what is left, s
 abbrev pub One : {A R : Type 0} → (A → R → Two → Type 0) → Type 0
 One {A} {R} Post = (a : A) (r r′ : R) (s s′ : Two) → Post a r s → Post a r′ s′ → r ≡ r′
 
+abbrev pub OneLentTwo : {A R : Type 0} → (A → R → Two → Type 0) → Type 0
+OneLentTwo {A} {R} Post = (a : A) (r r′ : R) (s s′ : Two) → Post a r s → Post a r′ s′ → (r ≡ r′) × (second s ≡ second s′)
+
 abbrev pub OneLent : {A R : Type 0} → (A → R → Three → Type 0) → Type 0
-OneLent {A} {R} Post = (a : A) (r r′ : R) (s s′ : Three) → Post a r s → Post a r′ s′ → (r ≡ r′) × (left s ≡ left s′)
+OneLent {A} {R} Post = (a : A) (r r′ : R) (s s′ : Three) → Post a r s → Post a r′ s′ → (r ≡ r′) × (third s ≡ third s′)
 
 pub record OneAnswer : Type 0 where
   pub run : (κs : Lfts 2) → OneLent (run.Post κs)
   pub translate : (κs : Lfts 2) → OneLent (translate.Post κs)
   pub first-step : (κs : Lfts 1) → One (first-step.Post κs)
+  pub draw : (κs : Lfts 2) → OneLentTwo (draw.Post κs)
+  pub undraw : (κs : Lfts 2) → OneLentTwo (undraw.Post κs)
   pub c-run : (κs : Lfts 2) → OneLent (c-run.Post κs)
   pub c-translate : (κs : Lfts 2) → OneLent (c-translate.Post κs)
   pub c-first-step : (κs : Lfts 1) → One (c-first-step.Post κs)
