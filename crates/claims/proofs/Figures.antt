@@ -19,6 +19,10 @@ use Rattle.translate.specs.Written.{bytesOf, rewritten, moved, translationWith}
 use Rattle.translate.specs.Entry.{wrote, translateAnswer, translateBytes}
 use Rattle.first_step.specs.First.{orElse, seek, tries, first, possible}
 use Rattle.first_step.specs.Entry.{afterRun, firstAnswer}
+use Rattle.dot.specs.Numbers.{decimal, signed}
+use Rattle.dot.specs.Text.{isBlank, written, headText, joint, numbersText, labelText, stateText, ruleText, statesText, rulesText, tableText, drawingOf}
+use Rattle.dot.specs.Reading.{isDigit, canMinus, limit, grow, put, newState, newRule, nextState, take1, growing, whole, next, ended, onward, run as runText, reading}
+use Rattle.drawing.specs.Entry.{trailerOf, tableOf, strange, drawnFault, drawnTable, given, left, drawAnswer, drawBytes, undrawAnswer, undrawBytes}
 use Rattle.claims.specs.Figures.{Every, cases}
 
 pub figures : Every cases
@@ -27,4 +31,6 @@ unfolding
     stateFault ruleFault recordsFault tableFault frontLength tableInUse startsOf stepsOf noTrailer outOfBundle notAdmitted stepsOff notInitial startFault scheduleFault
     faultWith size cellAt sentAt state cell sent hear tell start wide slot bump coll shown heard stepped malformed notInTransit notMet stepFault stepsIn run tagOf tagBy lowSender lowest lowAll least metAt ranWith
     ranAnswer runAnswer runWords bytesOf rewritten moved translationWith wrote translateAnswer translateBytes orElse seek possible tries first afterRun firstAnswer
-figures = (refl, (refl, (refl, (refl, (refl, (refl, ((refl, refl), ((refl, refl), ((refl, refl), ((refl, refl), ((refl, refl), ((refl, refl), ((refl, refl), ((refl, refl), ((refl, refl), (refl, (refl, (refl, (refl, (refl, ((refl, refl), ((refl, refl), ((refl, refl), ((refl, refl), ((refl, refl), (refl, (refl, (refl, tt))))))))))))))))))))))))))))
+    decimal signed isBlank written headText joint numbersText labelText stateText ruleText statesText rulesText tableText drawingOf isDigit canMinus limit grow put newState newRule nextState
+    take1 growing whole next ended onward runText reading trailerOf tableOf strange drawnFault drawnTable given left drawAnswer drawBytes undrawAnswer undrawBytes
+figures = (refl, (refl, (refl, (refl, (refl, (refl, ((refl, refl), ((refl, refl), ((refl, refl), ((refl, refl), ((refl, refl), ((refl, refl), ((refl, refl), ((refl, refl), ((refl, refl), (refl, (refl, (refl, (refl, (refl, ((refl, refl), ((refl, refl), ((refl, refl), ((refl, refl), ((refl, refl), (refl, (refl, (refl, ((refl, refl), ((refl, refl), ((refl, refl), ((refl, refl), ((refl, refl), ((refl, refl), ((refl, refl), ((refl, refl), ((refl, refl), ((refl, refl), ((refl, refl), ((refl, refl), ((refl, refl), ((refl, refl), ((refl, refl), ((refl, refl), tt))))))))))))))))))))))))))))))))))))))))))))

@@ -1,4 +1,4 @@
--- The outline's figures that are proved (marked P), as one list of cases and one claim: that each of them holds.
+-- The outline's figures that are proved (marked P), and those of Q-1's drawings, as one list of cases and one claim: that each of them holds.
 use mathlib.Core.Path.{_≡_}
 use mathlib.Core.List.{List, [], _∷_, _++_}
 use Prim.Native.Nat.{ℕ, _+_}
@@ -13,6 +13,8 @@ use Rattle.engine.specs.Entry.{runAnswer, runWords}
 use Rattle.translate.specs.Entry.{translateAnswer, translateBytes}
 use Rattle.first_step.specs.declared.First.{First}
 use Rattle.first_step.specs.Entry.{firstAnswer}
+use Rattle.dot.specs.Numbers.{text}
+use Rattle.drawing.specs.Entry.{drawAnswer, drawBytes, undrawAnswer, undrawBytes}
 use Rattle.echo.specs.Echo.{echo, fiveSteps, W, WCounting}
 
 pub data Case : Type 0 where
@@ -28,6 +30,9 @@ pub data Case : Type 0 where
   translates : List ℕ → List ℕ → ℕ → ℕ → ℕ → List ℕ → Case
   -- the first-step question on a bundle beside a standing table has this answer
   firstOf : List ℕ → List ℕ → First → Case
+  -- drawing a table answers refusal, place and bytes written, and leaves these bytes in as many lent ones; and so undrawing a text
+  draws : List ℕ → ℕ → ℕ → ℕ → List ℕ → Case
+  undraws : List ℕ → ℕ → ℕ → ℕ → List ℕ → Case
 
 abbrev pub Holds : Case → Type 0
 Holds (comesTo a b d n t z) = thresholdOf a b d n t ≡ z
@@ -38,6 +43,10 @@ Holds (runs b standing k p i words) =
 Holds (translates b standing k p n bytes) =
     (translateAnswer b standing (length bytes) ≡ record { refusal = k; place = p; count = n }) × (translateBytes b standing (replicate (length bytes) 9) ≡ bytes)
 Holds (firstOf b standing answer) = firstAnswer b standing ≡ answer
+Holds (draws s k p n bytes) =
+    (drawAnswer s (length bytes) ≡ record { refusal = k; place = p; count = n }) × (drawBytes s (replicate (length bytes) 9) ≡ bytes)
+Holds (undraws t k p n bytes) =
+    (undrawAnswer t (length bytes) ≡ record { refusal = k; place = p; count = n }) × (undrawBytes t (replicate (length bytes) 9) ≡ bytes)
 
 abbrev pub Every : List Case → Type 0
 Every [] = Unit {0}
@@ -49,6 +58,29 @@ scheduleIn form starts steps n t f = starts ++ (steps ++ (length steps ∷ 0 ∷
 
 abbrev schedule : List ℕ → List ℕ → ℕ → ℕ → ℕ → List ℕ
 schedule = scheduleIn 0
+
+-- the echo table's drawing, as Q-1 has it
+abbrev echoText : List ℕ
+echoText =
+    text "digraph t {\nT=1; k=3;\n" ++
+    text "s0 [label=\"1 0\"];\ns1 [label=\"1 0\"];\ns2 [label=\"0 1\"];\ns3 [label=\"2 1\"];\n" ++
+    text "s0 -> s0 [label=\"0 0 0\"];\ns0 -> s2 [label=\"0 1 1\"];\ns0 -> s3 [label=\"1 -1 0\"];\n" ++
+    text "s1 -> s2 [label=\"0 0 0\"];\ns2 -> s2 [label=\"0 0 0\"];\ns2 -> s3 [label=\"1 -1 0\"];\n" ++
+    text "s3 -> s3 [label=\"0 0 0\"];\n}\n"
+
+-- the same tokens with no blank that can be left out
+abbrev echoTight : List ℕ
+echoTight =
+    text "digraph t{T=1;k=3;s0[label=\"1 0\"];s1[label=\"1 0\"];s2[label=\"0 1\"];s3[label=\"2 1\"];" ++
+    text "s0->s0[label=\"0 0 0\"];s0->s2[label=\"0 1 1\"];s0->s3[label=\"1 -1 0\"];" ++
+    text "s1->s2[label=\"0 0 0\"];s2->s2[label=\"0 0 0\"];s2->s3[label=\"1 -1 0\"];s3->s3[label=\"0 0 0\"];}"
+
+-- a text that leaves all drawings at p; a drawing that is refused with k at place p; and one byte lent that stays
+abbrev leaves : List ℕ → ℕ → Case
+leaves t p = undraws t 60 p 0 (9 ∷ [])
+
+abbrev refuses : List ℕ → ℕ → ℕ → Case
+refuses t k p = undraws t k p 0 (9 ∷ [])
 
 abbrev pub cases : List Case
 cases =
@@ -91,4 +123,26 @@ cases =
     -- after W the first possible step is 00 04 00 00 (Q-2), in both forms; after P5's refusal there is none
     firstOf W echo (First.Step 0 4 0 0) ∷
     firstOf WCounting echo (First.Step 0 4 0 0) ∷
-    firstOf (fiveSteps 0 3 0 0) echo (First.Refused 24 4) ∷ []
+    firstOf (fiveSteps 0 3 0 0) echo (First.Refused 24 4) ∷
+    -- Q-1: the echo table's drawing, to the byte, both ways, with a byte past it that stays; and from its tokens alone
+    draws echo 0 0 280 (echoText ++ (9 ∷ [])) ∷
+    undraws echoText 0 0 51 (echo ++ (9 ∷ [])) ∷
+    undraws echoTight 0 0 51 echo ∷
+    -- with a byte too few
+    draws echo 61 0 0 (replicate 279 9) ∷
+    undraws echoText 61 0 0 (replicate 50 9) ∷
+    -- nothing, and a beginning of every drawing
+    leaves [] 0 ∷
+    leaves (text "digrap") 6 ∷
+    -- numbers: 256 at the 6, 01 at the 1, -0 at the 0
+    leaves (text "digraph t{T=256;k=3;}") 14 ∷
+    leaves (text "digraph t{T=01;k=3;}") 13 ∷
+    leaves (text "digraph t{T=1;k=3;s0->s0[label=\"-0 0 0\"];}") 33 ∷
+    -- a state line that is not the next, and one after a rule, at the bracket; a byte after the end
+    leaves (text "digraph t{T=1;k=3;s1[label=\"1 0\"];}") 20 ∷
+    leaves (text "digraph t{T=1;k=3;s0->s0[label=\"0 0 0\"];s0[label=\"1 0\"];}") 42 ∷
+    leaves (text "digraph t{T=1;k=3;}x") 19 ∷
+    -- drawings of no table: no states and no rules; no types, and a label with nothing in it; a state with flags 4
+    refuses (text "digraph t{T=1;k=3;}") 2 0 ∷
+    refuses (text "digraph t{T=0;k=3;s0[label=\"1 0\"];s0->s0[label=\"\"];}") 2 0 ∷
+    refuses (text "digraph t{T=1;k=3;s0[label=\"1 0\"];s1[label=\"4 0\"];s0->s0[label=\"0 0 0\"];}") 4 1 ∷ []

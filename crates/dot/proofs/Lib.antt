@@ -1,4 +1,3 @@
-pub mod Figures
 pub mod Fits
 pub mod NumberLaws
 pub mod Sound
