@@ -75,6 +75,13 @@ echoTight =
     text "s0->s0[label=\"0 0 0\"];s0->s2[label=\"0 1 1\"];s0->s3[label=\"1 -1 0\"];" ++
     text "s1->s2[label=\"0 0 0\"];s2->s2[label=\"0 0 0\"];s2->s3[label=\"1 -1 0\"];s3->s3[label=\"0 0 0\"];}"
 
+-- a table of two types, with six different coefficients, and its drawing
+abbrev twoTypes : List ℕ
+twoTypes = 0x01 ∷ 0x00 ∷ 0x00 ∷ 0x00 ∷ 0x01 ∷ 0x02 ∷ 0x03 ∷ 0x04 ∷ 0x05 ∷ 0xFA ∷ 0x0A ∷ 0x00 ∷ 0x08 ∷ 0x00 ∷ 0x01 ∷ 0x01 ∷ 0x02 ∷ 0x01 ∷ []
+
+abbrev twoTypesText : List ℕ
+twoTypesText = text "digraph t {\nT=2; k=1;\ns0 [label=\"1 0\"];\ns0 -> s0 [label=\"1 2 3, 4 5 -6\"];\n}\n"
+
 -- a text that leaves all drawings at p; a drawing that is refused with k at place p; and one byte lent that stays
 abbrev leaves : List ℕ → ℕ → Case
 leaves t p = undraws t 60 p 0 (9 ∷ [])
@@ -128,6 +135,9 @@ cases =
     draws echo 0 0 280 (echoText ++ (9 ∷ [])) ∷
     undraws echoText 0 0 51 (echo ++ (9 ∷ [])) ∷
     undraws echoTight 0 0 51 echo ∷
+    -- types in their order, each with a, b, d
+    draws twoTypes 0 0 76 twoTypesText ∷
+    undraws twoTypesText 0 0 18 twoTypes ∷
     -- with a byte too few
     draws echo 61 0 0 (replicate 279 9) ∷
     undraws echoText 61 0 0 (replicate 50 9) ∷

@@ -5,4 +5,10 @@ use Rattle.drawing.proofs.lines.end.Statement.{statement}
 use Rattle.drawing.proofs.lines.end.Tie as tie
 
 pub end-spec : {M : Type 1} → statement M
-end-spec = tie.close (tie.spec (λ c κs. search needs) (λ c κs. search needs) (λ c. search closed-stuck) (λ c. search (closed-ended, needs)))
+end-spec =
+    tie.close
+    (tie.spec
+    (λ c κs. search needs)
+    (λ c κs. search needs)
+    (λ c. closed-stuck (c .before .before .skip .ensures) (c .before .if1 .taken) (omega (arith, c .failed .ensures .0), c .failed .ensures .1))
+    (λ c. search (closed-ended, needs)))
