@@ -1,11 +1,12 @@
 -- Drawings, from what their texts are read as.
-use mathlib.Core.Path.{_≡_, refl, sym, ap, _∙_}
+use mathlib.Core.Path.{_≡_, refl, sym, ap, _∙_, subst, subst⁻¹}
 use mathlib.Core.Bool.{true, false}
-use mathlib.Core.List.{List, _∷_, _++_}
+use mathlib.Core.List.{List, _∷_, _++_, append-assoc}
 use Prim.Native.Nat.{ℕ, zero, suc, _+_, _-_, _*_, _≤_, _<_}
 use native.Mathlib.Omega.{arith}
 use native.Mathlib.Decide.{decLt, ℕ-discrete}
-use lib.ListN.{length, take}
+use lib.ListN.{length, take, drop, length-append, take-append-drop}
+use lib.Seq.{take-take, take-append-add, take-append-le}
 use borrow.Author.Tests.{eq-eqb, ne-eqb, lt-ltb, le-ltb, le-leb, lt-leb}
 use Rattle.fault.specs.declared.Verdict.{Verdict}
 use Rattle.fault.specs.declared.Answer.{Answer}
@@ -16,13 +17,14 @@ use Rattle.table.specs.Table.{statesOf, rulesOf, typesOf, factorOf}
 use Rattle.table.specs.Refusals.{tableFault}
 use Rattle.dot.specs.Text.{drawingOf}
 use Rattle.dot.specs.Reading.{Read, Outcome, drawn, fault, reading}
-use Rattle.dot.specs.Drawing.{Tokens, Drawing}
+use Rattle.dot.specs.Drawing.{Tokens, Drawing, Begins, Exact}
 use Rattle.dot.specs.Blanks.{moved}
 use Rattle.dot.proofs.Place.{read-draws}
 use Rattle.dot.proofs.Written.{table-read, drawing-read}
 use Rattle.dot.proofs.Tokens.{draws-tokens, tokens-read}
 use Rattle.dot.proofs.TokenPlace.{exact-place}
 use Rattle.dot.proofs.Blanks.{blank-inserted}
+use Rattle.dot.proofs.Gaps.{gap-between, tokens-gap}
 use Rattle.drawing.specs.Entry.{trailerOf, tableOf, strange, drawnFault, drawnTable, given, left, drawAnswer, drawBytes, undrawAnswer, undrawBytes}
 use Rattle.claims.specs.Drawings.{Gives, Table, ThereAndBack, NoDrawing, tableIn, Answered, Alike, oneLater, Inserted, Drawings}
 use Rattle.claims.proofs.DrawnTable.{Distances, distances, own-table, sized-counts, made-records, Later, later-0, later-2, later-above, records-later}
@@ -219,6 +221,9 @@ stays-before n a h l = rw (eq-eqb (a .refusal) 60 h, lt-leb n (a .place) l)
 abbrev sixty : ℕ → Answer
 sixty x = record { refusal = 60; place = x; count = 0 }
 
+same-number : {x y : ℕ} → (x < y → ⊥) → (y < x → ⊥) → x ≡ y
+same-number h g = omega arith
+
 suc-is : (x : ℕ) → suc x ≡ x + 1
 suc-is x = omega arith
 
@@ -258,6 +263,59 @@ module _ (p q : List ℕ) (c : ℕ) (moves : reading (p ++ (c ∷ q)) ≡ moved 
       go (drawn r) e = put-drawn r e
       go (fault x) e = elim (decLt x (length p)) [ yes l ↦ put-before x e l | no n ↦ put-after x e (omega arith) ]
 
+-- ---- after a fault
+-- what begins a drawing begins with what begins one
+begins-shorter : (p : List ℕ) (i j : ℕ) → i ≤ j → Begins (take j p) → Begins (take i p)
+begins-shorter p i j h b =
+    let w = drop i (take j p) in
+    let e : take i p ++ w ≡ take j p = ap (λ (v : List ℕ). v ++ w) (sym (take-take i j p h)) ∙ take-append-drop i (take j p) in
+    (w ++ b .0, subst Drawing (ap (λ (v : List ℕ). v ++ b .0) (sym e) ∙ append-assoc (take i p) w (b .0)) (b .1))
+
+module _ (p : List ℕ) (n : Begins p → ⊥) where
+  record Before (q : List ℕ) : Type 0 where
+    place : ℕ
+    faulty : reading (p ++ q) ≡ fault place
+    inside : place < length p
+
+  -- with whatever after it, p has its fault
+  before : (q : List ℕ) → Before q
+  before q = go (reading (p ++ q)) refl
+    where
+      too-far : (f : ℕ) → Exact (p ++ q) f → (f < length p → ⊥) → ⊥
+      too-far f x y =
+          let b = x .goes-on in
+          let m : f ≡ length p + (f - length p) = omega arith in
+          let e : take f (p ++ q) ≡ p ++ take (f - length p) q = ap (λ (i : ℕ). take i (p ++ q)) m ∙ take-append-add p q (f - length p) in
+          n (take (f - length p) q ++ b .0, subst Drawing (ap (λ (v : List ℕ). v ++ b .0) e ∙ append-assoc p (take (f - length p) q) (b .0)) (b .1))
+
+      go : (o : Outcome) → reading (p ++ q) ≡ o → Before q
+      go (drawn r) e = absurd (n (q, read-drawing (p ++ q) r e))
+      go (fault f) e =
+          elim (decLt f (length p)) [
+            | yes l ↦ record { place = f; faulty = e; inside = l }
+            | no y ↦ absurd (too-far f (exact-place (p ++ q) f e) y)
+          ]
+
+  -- and not before another
+  not-before : (q u : List ℕ) (a : Before q) (b : Before u) → a .place < b .place → ⊥
+  not-before q u a b h =
+      let x = exact-place (p ++ q) (a .place) (a .faulty) in
+      let y = exact-place (p ++ u) (b .place) (b .faulty) in
+      let l : a .place < length (p ++ q) = omega (arith, a .inside, length-append p q) in
+      let t : take (b .place) (p ++ u) ≡ take (b .place) p = take-append-le (b .place) p u (omega (arith, b .inside)) in
+      let s : take (suc (a .place)) (p ++ q) ≡ take (suc (a .place)) p = take-append-le (suc (a .place)) p q (a .inside) in
+      x .no-further l (subst⁻¹ Begins s (begins-shorter p (suc (a .place)) (b .place) h (subst Begins t (y .goes-on))))
+
+  alike-after : (q u : List ℕ) → Alike (p ++ q) (p ++ u)
+  alike-after q u =
+      let a = before q in
+      let b = before u in
+      let e : a .place ≡ b .place = same-number (not-before q u a b) (not-before u q b a) in
+      record {
+        answer = λ lent. says-60 (p ++ q) (a .place) (a .faulty) lent ∙ ap sixty e ∙ sym (says-60 (p ++ u) (b .place) (b .faulty) lent);
+        bytes = λ out. keeps-60 (p ++ q) (a .place) (a .faulty) out ∙ sym (keeps-60 (p ++ u) (b .place) (b .faulty) out);
+      }
+
 -- ---- all of it
 pub drawings : Drawings
 unfolding drawAnswer drawBytes undrawAnswer undrawBytes
@@ -266,7 +324,11 @@ drawings = record {
   no-drawing = none-drawn;
   drawing = answered-as;
   same-tokens = same-answers;
-  blank = λ p q c h b. put-in p q c (blank-inserted p q c h b);
+  blank = λ p q c h g m. put-in p q c (blank-inserted p q c h (gap-between p q g m));
+  gaps = tokens-gap;
+  blank-by-plan = λ p q c h b. put-in p q c (blank-inserted p q c h b);
+  after-fault = λ p q u n. alike-after p n q u;
+  draw-refused = λ s. refuses (tableFault s) (drawingOf s);
   draw-kept = λ s out. given-kept (tableFault s) (drawingOf s) out;
   undraw-kept = λ t out. given-kept (drawnFault (reading t)) (drawnTable (reading t)) out;
 }

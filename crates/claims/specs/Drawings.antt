@@ -12,11 +12,11 @@ use Rattle.fault.specs.Tests.{_atMost_}
 use Rattle.fault.specs.Fault.{refused, nothingDone, _if_else_}
 use Rattle.table.specs.Table.{statesOf, rulesOf, typesOf, factorOf}
 use Rattle.table.specs.Refusals.{tableFault}
-use Rattle.dot.specs.Text.{isBlank, Spaced, tableText, drawingOf}
+use Rattle.dot.specs.Text.{isBlank, Piece, space, Spaced, tableText, drawingOf}
 use Rattle.dot.specs.Plan.{header}
 use Rattle.dot.specs.Reading.{none, nothingRead}
-use Rattle.dot.specs.Drawing.{Tokens, Drawing, Exact}
-use Rattle.dot.specs.Blanks.{reach, BetweenAt}
+use Rattle.dot.specs.Drawing.{Tokens, Drawing, Begins, Exact}
+use Rattle.dot.specs.Blanks.{reach, BetweenAt, beginsBlank, beginsDigit, endsDigit, Gap}
 use Rattle.drawing.specs.Entry.{trailerOf, strange, drawAnswer, drawBytes, undrawAnswer, undrawBytes}
 
 -- a call that answers and leaves lent bytes gives w: into any bytes that are enough, and those past it stay; into fewer nothing, with 61
@@ -73,7 +73,7 @@ pub record Alike (t u : List ℕ) : Type 0 where
   pub answer : (lent : ℕ) → undrawAnswer t lent ≡ undrawAnswer u lent
   pub bytes : (out : List ℕ) → undrawBytes t out ≡ undrawBytes u out
 
--- after p a token has ended, and q begins another; or a fault came before
+-- after p the plan is at a gap, or at a whole number before one with which q does not go on; or a fault came before
 abbrev pub BetweenTokens : List ℕ → List ℕ → Type 0
 BetweenTokens p q = BetweenAt (reach p header nothingRead none) q
 
@@ -96,8 +96,17 @@ pub record Drawings : Type 0 where
   pub drawing : (t : List ℕ) (d : Drawing t) → Answered t d
   -- Q-1: blanks added between tokens change no answer of a drawing
   pub same-tokens : (t u : List ℕ) (T k n m : ℕ) (s : List ℕ) → Tokens t T k n m s → Tokens u T k n m s → Alike t u
-  -- Q-1: and of no text more than the place of a fault that comes after them
-  pub blank : (p q : List ℕ) (c : ℕ) → isBlank c ≡ true → BetweenTokens p q → Inserted p q c
+  -- Q-1: and of no text more than the place of a fault that comes after them, where two tokens meet and no number is parted
+  pub blank : (p q : List ℕ) (c : ℕ) → isBlank c ≡ true → Gap p → (endsDigit p && beginsDigit q) ≡ false → Inserted p q c
+  -- and two tokens meet wherever a drawing has a gap: after the pieces a, whose text is p, and before the pieces b, whose text is u
+  pub gaps : (T k n m : ℕ) (s p u : List ℕ) (a b : List Piece) (d : List ℕ) → Tokens (p ++ u) T k n m s → tableText T k n m s ≡ a ++ (space d ∷ b) →
+      Spaced a p → Spaced b u → beginsBlank u ≡ false → Gap p
+  -- the same by the plan, which also tells digits that are no part of a number, as the 6 of 256
+  pub blank-by-plan : (p q : List ℕ) (c : ℕ) → isBlank c ≡ true → BetweenTokens p q → Inserted p q c
+  -- after a fault nothing matters
+  pub after-fault : (p q u : List ℕ) → (Begins p → ⊥) → Alike (p ++ q) (p ++ u)
+  -- a table that is refused is not drawn, with its own number and place
+  pub draw-refused : (s : List ℕ) → (tableFault s .number ≡ 0 → ⊥) → (lent : ℕ) → drawAnswer s lent ≡ nothingDone (tableFault s)
   -- any refusal writes nothing
   pub draw-kept : (s out : List ℕ) → (drawAnswer s (length out) .refusal ≡ 0 → ⊥) → (drawBytes s out ≡ out) × (drawAnswer s (length out) .count ≡ 0)
   pub undraw-kept : (t out : List ℕ) → (undrawAnswer t (length out) .refusal ≡ 0 → ⊥) → (undrawBytes t out ≡ out) × (undrawAnswer t (length out) .count ≡ 0)

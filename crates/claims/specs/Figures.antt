@@ -136,7 +136,7 @@ cases =
     undraws echoText 0 0 51 (echo ++ (9 ∷ [])) ∷
     undraws echoTight 0 0 51 echo ∷
     -- types in their order, each with a, b, d
-    draws twoTypes 0 0 76 twoTypesText ∷
+    draws twoTypes 0 0 76 (twoTypesText ++ (9 ∷ [])) ∷
     undraws twoTypesText 0 0 18 twoTypes ∷
     -- with a byte too few
     draws echo 61 0 0 (replicate 279 9) ∷

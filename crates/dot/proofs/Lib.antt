@@ -10,3 +10,4 @@ pub mod Written
 pub mod Kept
 pub mod Tokens
 pub mod TokenPlace
+pub mod Gaps

@@ -1,10 +1,12 @@
--- Blanks between tokens (Q-1, "Prove"): where they may be added to any text, and what they change. Proof: proofs/Blanks.antt.
+-- Blanks between tokens (Q-1, "Prove"): where they may be added to any text, and what they change. Proofs: proofs/Blanks.antt and proofs/Gaps.antt.
 use Prim.Native.Nat.{ℕ, zero, suc}
 use mathlib.Core.Path.{_≡_}
-use mathlib.Core.Bool.{false}
-use mathlib.Core.List.{List, [], _∷_}
+use mathlib.Core.Bool.{Bool, true, false}
+use mathlib.Core.List.{List, [], _∷_, _++_}
+use Rattle.dot.specs.Text.{isBlank}
 use Rattle.dot.specs.Plan.{Item, gap, num, one}
-use Rattle.dot.specs.Reading.{Num, none, minus, some, canMinus, grow, no-more, Read, Step, stuck, at, next, ended, Outcome, drawn, fault, later}
+use Rattle.dot.specs.Reading.{isDigit, Num, none, minus, some, canMinus, grow, no-more, Read, Step, stuck, at, next, ended, Outcome, drawn, fault, later}
+use Rattle.dot.specs.Drawing.{Drawing}
 
 -- where reading stands after p
 abbrev pub go-on : Step → (List Item → Read → Num → Step) → Step
@@ -39,3 +41,24 @@ moved n (drawn r) = drawn r
 moved zero (fault f) = fault (suc f)
 moved (suc n) (fault zero) = fault zero
 moved (suc n) (fault (suc f)) = later (moved n (fault f))
+
+-- ---- where two tokens meet, by drawings alone
+abbrev pub beginsBlank : List ℕ → Bool
+beginsBlank [] = false
+beginsBlank (c ∷ q) = isBlank c
+
+abbrev pub beginsDigit : List ℕ → Bool
+beginsDigit [] = false
+beginsDigit (c ∷ q) = isDigit c
+
+abbrev pub endsDigit : List ℕ → Bool
+endsDigit [] = false
+endsDigit (c ∷ []) = isDigit c
+endsDigit (c ∷ (d ∷ p)) = endsDigit (d ∷ p)
+
+-- some drawing goes on after p with no blank, or ends there; and with any one blank put in it is a drawing too
+pub record Gap (p : List ℕ) : Type 0 where
+  pub rest : List ℕ
+  pub solid : beginsBlank rest ≡ false
+  pub tight : Drawing (p ++ rest)
+  pub apart : (c : ℕ) → isBlank c ≡ true → Drawing (p ++ (c ∷ rest))
