@@ -77,10 +77,10 @@ echoTight =
 
 -- a table of two types, with six different coefficients, and its drawing
 abbrev twoTypes : List ℕ
-twoTypes = 0x01 ∷ 0x00 ∷ 0x00 ∷ 0x00 ∷ 0x01 ∷ 0x02 ∷ 0x03 ∷ 0x04 ∷ 0x05 ∷ 0xFA ∷ 0x0A ∷ 0x00 ∷ 0x08 ∷ 0x00 ∷ 0x01 ∷ 0x01 ∷ 0x02 ∷ 0x01 ∷ []
+twoTypes = 0x01 ∷ 0x00 ∷ 0x00 ∷ 0x00 ∷ 0xFF ∷ 0x02 ∷ 0x03 ∷ 0x04 ∷ 0x05 ∷ 0xFA ∷ 0x0A ∷ 0x00 ∷ 0x08 ∷ 0x00 ∷ 0x01 ∷ 0x01 ∷ 0x02 ∷ 0x01 ∷ []
 
 abbrev twoTypesText : List ℕ
-twoTypesText = text "digraph t {\nT=2; k=1;\ns0 [label=\"1 0\"];\ns0 -> s0 [label=\"1 2 3, 4 5 -6\"];\n}\n"
+twoTypesText = text "digraph t {\nT=2; k=1;\ns0 [label=\"1 0\"];\ns0 -> s0 [label=\"-1 2 3, 4 5 -6\"];\n}\n"
 
 -- a text that leaves all drawings at p; a drawing that is refused with k at place p; and one byte lent that stays
 abbrev leaves : List ℕ → ℕ → Case
@@ -136,7 +136,7 @@ cases =
     undraws echoText 0 0 51 (echo ++ (9 ∷ [])) ∷
     undraws echoTight 0 0 51 echo ∷
     -- types in their order, each with a, b, d
-    draws twoTypes 0 0 76 (twoTypesText ++ (9 ∷ [])) ∷
+    draws twoTypes 0 0 77 (twoTypesText ++ (9 ∷ [])) ∷
     undraws twoTypesText 0 0 18 twoTypes ∷
     -- with a byte too few
     draws echo 61 0 0 (replicate 279 9) ∷
