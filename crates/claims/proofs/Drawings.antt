@@ -263,7 +263,7 @@ module _ (p q : List ℕ) (c : ℕ) (moves : reading (p ++ (c ∷ q)) ≡ moved 
       go (drawn r) e = put-drawn r e
       go (fault x) e = elim (decLt x (length p)) [ yes l ↦ put-before x e l | no n ↦ put-after x e (omega arith) ]
 
--- ---- after a fault
+-- ---- one place
 -- what begins a drawing begins with what begins one
 begins-shorter : (p : List ℕ) (i j : ℕ) → i ≤ j → Begins (take j p) → Begins (take i p)
 begins-shorter p i j h b =
@@ -271,6 +271,13 @@ begins-shorter p i j h b =
     let e : take i p ++ w ≡ take j p = ap (λ (v : List ℕ). v ++ w) (sym (take-take i j p h)) ∙ take-append-drop i (take j p) in
     (w ++ b .0, subst Drawing (ap (λ (v : List ℕ). v ++ b .0) (sym e) ∙ append-assoc (take i p) w (b .0)) (b .1))
 
+not-sooner : (t : List ℕ) (p q : ℕ) → Exact t p → Exact t q → p < q → ⊥
+not-sooner t p q x y h = x .no-further (omega (arith, y .within)) (begins-shorter t (suc p) q h (y .goes-on))
+
+only-place : (t : List ℕ) (p q : ℕ) → Exact t p → Exact t q → p ≡ q
+only-place t p q x y = same-number (not-sooner t p q x y) (not-sooner t q p y x)
+
+-- ---- after a fault
 module _ (p : List ℕ) (n : Begins p → ⊥) where
   record Before (q : List ℕ) : Type 0 where
     place : ℕ
@@ -322,6 +329,7 @@ unfolding drawAnswer drawBytes undrawAnswer undrawBytes
 drawings = record {
   there-and-back = both-ways;
   no-drawing = none-drawn;
+  one-place = only-place;
   drawing = answered-as;
   same-tokens = same-answers;
   blank = λ p q c h g m. put-in p q c (blank-inserted p q c h (gap-between p q g m));

@@ -92,6 +92,8 @@ pub record Drawings : Type 0 where
   pub there-and-back : (s : List ℕ) → Table s → ThereAndBack s
   -- Q-1: 60 exactly where the text is no drawing, and its place is exact (for the other direction `Answered .never-60`)
   pub no-drawing : (t : List ℕ) → (Drawing t → ⊥) → NoDrawing t
+  -- there is no other exact place
+  pub one-place : (t : List ℕ) (p q : ℕ) → Exact t p → Exact t q → p ≡ q
   -- Q-1: a drawing is answered as the table that it draws
   pub drawing : (t : List ℕ) (d : Drawing t) → Answered t d
   -- Q-1: blanks added between tokens change no answer of a drawing
