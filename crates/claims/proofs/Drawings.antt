@@ -104,6 +104,12 @@ module _ (r : Read) where
   unfolding drawnFault _if_else_
   read-fine h = rw h
 
+  strange-refused : strange (r .states) (r .rules) (r .types) (r .factor) ≡ true → drawnFault (drawn r) .number ≡ 0 → ⊥
+  strange-refused h z = let q = sym (ap (λ (v : Verdict). v .number) (read-strange h)) ∙ z in omega (arith, q)
+
+  fine-number : strange (r .states) (r .rules) (r .types) (r .factor) ≡ false → drawnFault (drawn r) .number ≡ tableFault (tableOf r) .number
+  fine-number h = ap (λ (v : Verdict). v .number) (read-fine h)
+
   read-later : length (r .body) ≡ 2 * r .states + r .rules * (2 + 3 * r .types) → Later (drawnFault (drawn r) .number)
   unfolding drawnFault tableOf
   read-later l =
@@ -115,7 +121,7 @@ gives-back : (t s : List ℕ) (r : Read) → reading t ≡ drawn r → strange (
     Gives (undrawAnswer t) (undrawBytes t) s
 unfolding drawnTable
 gives-back t s r e h f z =
-    rw f at (undraw-gives t (drawn r) e (ap (λ (v : Verdict). v .number) (read-fine r h) ∙ ap (λ (w : List ℕ). tableFault w .number) f ∙ z))
+    rw f at (undraw-gives t (drawn r) e (fine-number r h ∙ ap (λ (w : List ℕ). tableFault w .number) f ∙ z))
 
 read-drawing : (t : List ℕ) (r : Read) → reading t ≡ drawn r → Drawing t
 read-drawing t r e =
@@ -173,10 +179,11 @@ unfolding tableOf
 answered-as t d =
     let e = tokens-read t (d .types) (d .factor) (d .states) (d .rules) (d .body) (d .tokens) in
     let r : Read = record { types = d .types; factor = d .factor; states = d .states; rules = d .rules; last = e .0; body = d .body } in
-    let y : (lent : ℕ) → Later (undrawAnswer t lent .refusal) = λ lent. rw (answers t (drawn r) (e .1) lent) (given-later (drawnFault (drawn r)) (drawnTable (drawn r)) (read-later r (d .tokens .whole)) lent) in
+    let l = given-later (drawnFault (drawn r)) (drawnTable (drawn r)) (read-later r (d .tokens .whole)) in
+    let y : (lent : ℕ) → Later (undrawAnswer t lent .refusal) = λ lent. rw (answers t (drawn r) (e .1) lent) (l lent) in
     record {
-      counts = λ h lent. undraw-refuses t (drawn r) (e .1) (λ z. absurd (let q = sym (ap (λ (v : Verdict). v .number) (read-strange r h)) ∙ z in omega (arith, q))) lent ∙ ap nothingDone (read-strange r h);
-      off = λ h n lent. undraw-refuses t (drawn r) (e .1) (λ z. n (sym (ap (λ (v : Verdict). v .number) (read-fine r h)) ∙ z)) lent ∙ ap nothingDone (read-fine r h);
+      counts = λ h lent. undraw-refuses t (drawn r) (e .1) (strange-refused r h) lent ∙ ap nothingDone (read-strange r h);
+      off = λ h n lent. undraw-refuses t (drawn r) (e .1) (λ z. n (sym (fine-number r h) ∙ z)) lent ∙ ap nothingDone (read-fine r h);
       table = λ h z. gives-back t (tableIn d) r (e .1) h refl z;
       never-1 = λ lent. y lent .not-1;
       never-3 = λ lent. y lent .not-3;
