@@ -15,4 +15,6 @@ one-answer = record {
   c-run = λ κs a r r′ s s′ p q. (both (p .0) (q .0), both (p .1) (q .1));
   c-translate = λ κs a r r′ s s′ p q. (both (p .0) (q .0), both (p .1) (q .1));
   c-first-step = λ κs a r r′ s s′ p q. both p q;
+  c-draw = λ κs a r r′ s s′ p q. (both (p .0) (q .0), both (p .1) (q .1));
+  c-undraw = λ κs a r r′ s s′ p q. (both (p .0) (q .0), both (p .1) (q .1));
 }

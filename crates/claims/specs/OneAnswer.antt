@@ -13,6 +13,8 @@ use Rattle.drawing.proofs.undraw.Reads as undraw
 use Rattle.capi.proofs.macaroosh_run.Reads as c-run
 use Rattle.capi.proofs.macaroosh_translate.Reads as c-translate
 use Rattle.capi.proofs.macaroosh_first_step.Reads as c-first-step
+use Rattle.capi.proofs.macaroosh_draw.Reads as c-draw
+use Rattle.capi.proofs.macaroosh_undraw.Reads as c-undraw
 
 -- two buffers as a call leaves them: a bundle and a standing table; or a table or a text, and lent bytes
 abbrev pub Two : Type 0
@@ -48,3 +50,5 @@ pub record OneAnswer : Type 0 where
   pub c-run : (κs : Lfts 2) → OneLent (c-run.Post κs)
   pub c-translate : (κs : Lfts 2) → OneLent (c-translate.Post κs)
   pub c-first-step : (κs : Lfts 1) → One (c-first-step.Post κs)
+  pub c-draw : (κs : Lfts 2) → OneLentTwo (c-draw.Post κs)
+  pub c-undraw : (κs : Lfts 2) → OneLentTwo (c-undraw.Post κs)
