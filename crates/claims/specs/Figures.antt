@@ -155,4 +155,7 @@ cases =
     -- drawings of no table: no states and no rules; no types, and a label with nothing in it; a state with flags 4
     refuses (text "digraph t{T=1;k=3;}") 2 0 ∷
     refuses (text "digraph t{T=0;k=3;s0[label=\"1 0\"];s0->s0[label=\"\"];}") 2 0 ∷
-    refuses (text "digraph t{T=1;k=3;s0[label=\"1 0\"];s1[label=\"4 0\"];s0->s0[label=\"0 0 0\"];}") 4 1 ∷ []
+    refuses (text "digraph t{T=1;k=3;s0[label=\"1 0\"];s1[label=\"4 0\"];s0->s0[label=\"0 0 0\"];}") 4 1 ∷
+    -- Q-2: one board alone has sent, heard itself and accepted; it can only wait, in either form
+    firstOf (schedule (1 ∷ []) (0 ∷ 3 ∷ 255 ∷ 255 ∷ 0 ∷ 5 ∷ 0 ∷ 0 ∷ []) 1 0 0) echo First.Nothing ∷
+    firstOf (scheduleIn 1 (1 ∷ []) (0 ∷ 3 ∷ 255 ∷ 255 ∷ 0 ∷ 5 ∷ 0 ∷ 0 ∷ []) 1 0 0) echo First.Nothing ∷ []
