@@ -12,7 +12,8 @@ use Rattle.dot.specs.Text.{isBlank, joint}
 use Rattle.dot.specs.Plan.{Slot, cell, coefficient, One, byte, blank as one-blank, line, kind, Item, gap, num, one, plan, bytes, lines, header, named, numbers, label, stateLine, ruleLine, ending}
 use Rattle.dot.specs.Reading.{isDigit, Num, none, minus, some, canMinus, limit, grown, no-more, grow, byteOf, Read, put, newState, newRule, nextState, Turn, halt, to, take1, Step, stuck, at, growing, whole, next, ended, drawn, fault, onward, run}
 use Rattle.dot.proofs.Fits.{spell, allowed, Fits, done, blank, no-blank, number, single}
-use Rattle.dot.proofs.NumberLaws.{both, join, digit, limit-most, one-digit, two-digits, three-digits, negative, positive}
+use Rattle.senders.proofs.TallyLaws.{and-both as both}
+use Rattle.dot.proofs.NumberLaws.{join, digit, limit-most, one-digit, two-digits, three-digits, negative, positive}
 
 -- ---- neat plans: nothing that follows a gap takes a blank, and something that takes no digit follows each number
 abbrev noBlank : List Item → Bool

@@ -13,7 +13,8 @@ use Rattle.dot.specs.Plan.{Slot, cell, coefficient, One, byte, blank as 
 use Rattle.dot.specs.Reading.{isDigit, Num, none, minus, some, canMinus, limit, Grown, grown, no-more, grow, byteOf, Read, nothingRead, put, newState, newRule, nextState, Turn, halt, to, take1, Step, stuck, at, turned, growing, whole, next, ended, Outcome, drawn, fault, later, onward, run, reading}
 use Rattle.dot.specs.Drawing.{Tokens, Drawing}
 use Rattle.dot.specs.Blanks.{go-on, reach, Between, BetweenAt, beginsBlank, beginsDigit, endsDigit, Gap}
-use Rattle.dot.proofs.NumberLaws.{both, join}
+use Rattle.senders.proofs.TallyLaws.{and-both as both}
+use Rattle.dot.proofs.NumberLaws.{join}
 use Rattle.dot.proofs.Tokens.{tokens-read}
 
 -- ---- plans in which each number is followed by a byte of its own, or by a gap that is not the last

@@ -11,7 +11,8 @@ use Rattle.dot.specs.Text.{isBlank}
 use Rattle.dot.specs.Plan.{Slot, types, factor, name, cell, coefficient, One, byte, blank as one-blank, line, kind, Item, named, stateLine, ruleLine, ending}
 use Rattle.dot.specs.Reading.{Num, canMinus, byteOf, Read, put, newState, newRule, nextState, Turn, halt, to, take1}
 use Rattle.dot.proofs.Fits.{Fits, done, blank, no-blank, number, single}
-use Rattle.dot.proofs.NumberLaws.{both, stands}
+use Rattle.senders.proofs.TallyLaws.{and-both as both}
+use Rattle.dot.proofs.NumberLaws.{stands}
 
 -- a relation that each thing read keeps
 pub record Keeps (R : Read → Read → Type 0) : Type 0 where

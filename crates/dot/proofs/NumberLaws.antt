@@ -6,18 +6,14 @@ use mathlib.Core.List.{List, [], _∷_, _++_}
 use native.Mathlib.Omega.{arith}
 use lib.Dec.{eqb, leb, ltb}
 use borrow.Author.Tests.{ltb-true, ltb-false, leb-true, eqb-true, eqb-false, lt-ltb, le-ltb, le-leb, not-true}
+use Rattle.senders.proofs.TallyLaws.{and-both as both}
 use Rattle.fault.specs.Fault.{_if_else_}
-use Rattle.dot.specs.Numbers.{decimal, signed}
+use Rattle.dot.specs.Numbers.{decimal, signed, spelling}
 use Rattle.dot.specs.Reading.{isDigit, Num, none, minus, some, Grown, grown, no-more, grow, limit, byteOf}
 use Rattle.dot.proofs.Fits.{spell, allowed}
 
 -- ---- tests
--- two tests that both pass
-pub both : (a b : Bool) → (a && b) ≡ true → (a ≡ true) × (b ≡ true)
-both true b h = (refl, h)
-both false b h = absurd (false≢true h)
-
--- and the test of both
+-- the test of two that both pass
 pub join : (a b : Bool) → a ≡ true → b ≡ true → (a && b) ≡ true
 join a b p q = rw (p, q)
 
@@ -213,12 +209,6 @@ pub grew : (g : Bool) (x : Num) (c : ℕ) → GrewTo g x c (grow g x c)
 grew g none c = grew-none g c
 grew g minus c = grew-minus g c
 grew g (some n v) c = grew-some g n v c
-
--- ---- bytes
--- a byte as a number, signed where minus can be
-abbrev pub spelling : Bool → ℕ → List ℕ
-spelling false = decimal
-spelling true = signed
 
 -- a number in its range that stands for the byte b, and its text
 pub record Spelt (g : Bool) (b : ℕ) : Type 0 where

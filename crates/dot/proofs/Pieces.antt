@@ -5,11 +5,12 @@ use mathlib.Core.Bool.{Bool, true, false, cond}
 use mathlib.Core.List.{List, [], _∷_, _++_}
 use lib.Dec.{eqb}
 use borrow.Author.Tests.{eqb-true}
+use Rattle.dot.specs.Numbers.{spelling}
 use Rattle.dot.specs.Text.{isBlank, Piece, char, space, must, Spaced, over, letter, one-more, no-more, needed, chars, after}
 use Rattle.dot.specs.Plan.{Slot, One, byte, blank as one-blank, Item, gap, num, one, bytes}
 use Rattle.dot.specs.Reading.{Num, none, some, canMinus, byteOf, Read, put, Turn, halt, to, take1, turned}
 use Rattle.dot.proofs.Fits.{spell, Fits, done, blank, no-blank, number, single}
-use Rattle.dot.proofs.NumberLaws.{spelling, byte-spelt, stands}
+use Rattle.dot.proofs.NumberLaws.{byte-spelt, stands}
 use Rattle.dot.proofs.Sound.{Then}
 use Rattle.dot.proofs.Ends.{byte-taken, blank-taken}
 

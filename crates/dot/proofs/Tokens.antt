@@ -9,13 +9,12 @@ use lib.Dec.{eqb}
 use lib.ListN.{length, take, length-append, length-take}
 use lib.Seq.{length-take-le, take-length, getD-at}
 use Rattle.fault.specs.Bytes.{byteAt}
-use Rattle.dot.specs.Numbers.{text, decimal}
+use Rattle.dot.specs.Numbers.{text, decimal, spelling}
 use Rattle.dot.specs.Text.{Piece, space, Spaced, over, chars, after, newLine, tight, aBlank, joint, numbersText, labelText, stateText, ruleText, statesText, rulesText, endText, headText, tableText}
 use Rattle.dot.specs.Plan.{Slot, types, factor, cell, coefficient, line, kind, Item, gap, num, one, lines, ending, named, numbers, label, stateLine, ruleLine}
 use Rattle.dot.specs.Reading.{none, canMinus, Read, nothingRead, put, newState, newRule, nextState, halt, to, take1, turned, drawn, reading}
 use Rattle.dot.specs.Drawing.{Tokens}
 use Rattle.dot.proofs.Fits.{Fits, done, Draws}
-use Rattle.dot.proofs.NumberLaws.{spelling}
 use Rattle.dot.proofs.Sound.{Then}
 use Rattle.dot.proofs.Written.{Adds, seen, seen-put, seen-rule, table-read}
 use Rattle.dot.proofs.Kept.{kept, since-keeps, Ranged, state-named, ranged-keeps}

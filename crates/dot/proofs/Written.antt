@@ -12,11 +12,11 @@ use borrow.Author.Tests.{eq-eqb}
 use Rattle.fault.specs.Bytes.{byteAt}
 use Rattle.table.specs.Table.{statesOf, rulesOf, typesOf, factorOf}
 use Rattle.table.specs.Facts.{Sized}
-use Rattle.dot.specs.Numbers.{text, decimal, signed}
+use Rattle.dot.specs.Numbers.{text, decimal, signed, spelling}
 use Rattle.dot.specs.Text.{isBlank, Piece, char, space, must, written, Spaced, over, letter, one-more, no-more, needed, chars, headText, joint, numbersText, labelText, stateText, ruleText, statesText, rulesText, endText, tableText, drawingOf}
 use Rattle.dot.specs.Plan.{Slot, types, factor, name, cell, coefficient, Item, lines, header, named, numbers, label, stateLine, ruleLine, ending}
 use Rattle.dot.specs.Reading.{canMinus, Read, nothingRead, put, newState, newRule, nextState, to, take1, drawn, reading}
-use Rattle.dot.proofs.NumberLaws.{both, spelling}
+use Rattle.senders.proofs.TallyLaws.{and-both as both}
 use Rattle.dot.proofs.Pieces.{Goes, over-goes, one-goes, byte-goes, bytes-go, gap-goes, must-goes, after-goes, num-goes}
 use Rattle.dot.proofs.Place.{draws-read}
 

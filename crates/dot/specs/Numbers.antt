@@ -2,6 +2,7 @@
 use Prim.Native.Nat.{ℕ, _+_, _-_, _/_, _%_}
 use Prim.Native.Char.{code}
 use Prim.Native.String.{String, [], _∷_}
+use mathlib.Core.Bool.{Bool, true, false}
 use mathlib.Core.List.{List, [] as nil, _∷_ as cons}
 use Rattle.fault.specs.Tests.{_below_}
 use Rattle.fault.specs.Fault.{_if_else_}
@@ -21,3 +22,8 @@ decimal v =
 -- a byte as a signed number, −128 to 127
 unfoldable pub signed : ℕ → List ℕ
 signed b = decimal b if b below 128 else cons 45 (decimal (256 - b))
+
+-- how a byte is written where it may stand for a number below 0, and where not
+abbrev pub spelling : Bool → ℕ → List ℕ
+spelling false = decimal
+spelling true = signed

@@ -7,17 +7,15 @@ use native.Mathlib.Omega.{arith}
 use lib.Dec.{eqb, leb}
 use lib.ListN.{length}
 use borrow.Author.Tests.{eqb-true, eqb-false, leb-true, not-true, not-false}
+use Rattle.senders.proofs.TallyLaws.{and-both as both}
 use Rattle.fault.specs.Bytes.{byteAt}
 use Rattle.dot.specs.Plan.{Slot, Item, num}
 use Rattle.dot.specs.Reading.{isDigit, canMinus, limit, Num, none, minus, some, Grown, grown, no-more, grow, byteOf, Read, put, Step, stuck, at, growing, whole, next, ended, fault}
+use Rattle.dot.proofs.NumberLaws.{digit}
 use Rattle.drawing.specs.declared.Cursor.{Cursor}
 use Rattle.drawing.specs.Cursor.{from, reached, peeked, goesOn, begun, Begun, Counted, Digits, Rest}
 use Rattle.drawing.proofs.FromLaws.{Seen, seen, seen-byte, from-byte, from-end, from-not, from-same}
 use Rattle.drawing.proofs.PlanLaws.{at-free, at-stuck, stands, sticks}
-
-pub both : (a b : Bool) → (a && b) ≡ true → (a ≡ true) × (b ≡ true)
-both true b h = (refl, h)
-both false b h = absurd (true≢false (sym h))
 
 -- ---- sizes
 pub limit-plain : (g b : Bool) → not g ≡ true → 255 ≡ limit g b
@@ -33,12 +31,7 @@ unfolding limit
 limit-above g b h e = rw (not-false g h, e)
 
 pub digit-least : (x : ℕ) {d : Bool} → d ≡ isDigit x → d ≡ true → 48 ≤ x
-unfolding isDigit
-digit-least x e h = leb-true 48 x (both (leb 48 x) (leb x 57) (sym e ∙ h) .0)
-
-digit-most : (x : ℕ) → isDigit x ≡ true → x ≤ 57
-unfolding isDigit
-digit-most x h = leb-true x 57 (both (leb 48 x) (leb x 57) h .1)
+digit-least x e h = digit x (sym e ∙ h) .from
 
 pub goes-on-digit : (x v most : ℕ) {d : Bool} → d ≡ isDigit x → d ≡ true → (not (eqb v 0) && leb (v * 10 + (x - 48)) most) ≡ goesOn x v most
 unfolding goesOn
@@ -64,13 +57,12 @@ first-digit t i neg {x} e eb y =
     let h : first neg x ≡ true = sym eb ∙ y in
     let z = seen (first neg) t i refl e h in
     let p = both (isDigit x) (not (neg && eqb x 48)) h in
-    let a = digit-least x refl (p .0) in
-    let b = digit-most x (p .0) in
+    let a = digit x (p .0) in
     record {
       there = omega (arith, z .there);
-      least = a;
-      size = omega arith;
-      positive = λ n. let o : x ≡ 48 → ⊥ = eqb-false x 48 (not-true (eqb x 48) (rw n at (p .1))) in omega (arith, o);
+      least = a .from;
+      size = omega (arith, a .to);
+      positive = λ n. let o : x ≡ 48 → ⊥ = eqb-false x 48 (not-true (eqb x 48) (rw n at (p .1))) in omega (arith, o, a .from);
     }
 
 grow-first : (g neg : Bool) (x : ℕ) → first neg x ≡ true → grow g (begun neg) x ≡ grown (some neg (x - 48))

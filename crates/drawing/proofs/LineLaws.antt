@@ -8,6 +8,7 @@ use native.Mathlib.Nat.{add-mul, one-mul}
 use lib.Dec.{eqb}
 use lib.ListN.{length, length-append}
 use borrow.Author.Tests.{eqb-true, eqb-false, eq-eqb, ne-eqb, not-true, not-false}
+use Rattle.senders.proofs.TallyLaws.{and-both as both}
 use Rattle.fault.specs.Bytes.{byteAt}
 use Rattle.fault.specs.Fault.{_if_else_}
 use Rattle.fault.proofs.TestLaws.{or-none}
@@ -22,7 +23,6 @@ use Rattle.drawing.specs.Cursor.{shifted, from, reached, peeked, more, c
 use Rattle.drawing.specs.Lines.{Known, onLines, onName, onState, onRule, onEnd, Arrow, Stood, Headed, Closed, Told}
 use Rattle.drawing.proofs.FromLaws.{Seen, seen, seen-byte, from-byte, from-stuck, from-over, from-not, from-same, from-end}
 use Rattle.drawing.proofs.PlanLaws.{at-free, at-stuck, stands}
-use Rattle.drawing.proofs.DigitLaws.{both}
 
 -- ---- what is known
 -- reading goes on elsewhere

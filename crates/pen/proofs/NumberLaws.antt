@@ -6,9 +6,9 @@ use mathlib.Core.List.{List, [], _∷_}
 use native.Mathlib.Omega.{arith}
 use borrow.Author.Tests.{lt-ltb, le-ltb, eq-eqb, ne-eqb}
 use Rattle.fault.specs.Fault.{_if_else_}
-use Rattle.dot.specs.Numbers.{text, decimal, signed}
+use Rattle.dot.specs.Numbers.{text, decimal, signed, spelling}
 use Rattle.dot.specs.Text.{joint}
-use Rattle.pen.specs.Pen.{stored, Put, spelling}
+use Rattle.pen.specs.Pen.{stored, Put}
 use Rattle.pen.proofs.PenLaws.{put-none, put-byte, put-then}
 
 -- ---- digits

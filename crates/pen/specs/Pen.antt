@@ -1,12 +1,11 @@
 -- Bytes put one after the other into lent memory, so far as they fit; and the parts of a drawing that are put so.
 use Prim.Native.Nat.{ℕ, _+_}
 use mathlib.Core.Path.{_≡_}
-use mathlib.Core.Bool.{Bool, true, false}
 use mathlib.Core.List.{List, [], _∷_}
 use lib.ListN.{length, set}
 use Rattle.fault.specs.Tests.{_below_}
 use Rattle.fault.specs.Fault.{_if_else_}
-use Rattle.dot.specs.Numbers.{text, decimal, signed}
+use Rattle.dot.specs.Numbers.{text}
 use Rattle.dot.specs.Text.{Piece, written, after, aBlank, labelText}
 
 -- a place is below 2^64 - 1, so that the next one never wraps
@@ -31,8 +30,3 @@ alone part = written (part [])
 -- a label with its bracket
 abbrev pub labelled : (ℕ → List ℕ) → ℕ → List ℕ → ℕ → List Piece → List Piece
 labelled spell g s at p = after aBlank (text "[") (labelText spell g s at p)
-
--- how the numbers of a label are written: a rule's may be negative
-abbrev pub spelling : Bool → ℕ → List ℕ
-spelling false = decimal
-spelling true = signed

@@ -5,10 +5,10 @@ ghost use Prim.Native.Nat.{_+_, _*_, _≤_, _<_};
 ghost use lib.ListN.{length};
 ghost use Rattle.table.specs.Table.{statesOf, rulesOf, typesOf, factorOf, ruleAt};
 ghost use Rattle.table.specs.Facts.{Sized};
-ghost use Rattle.dot.specs.Numbers.{decimal};
+ghost use Rattle.dot.specs.Numbers.{decimal, spelling};
 ghost use Rattle.dot.specs.Numbers as numbers;
 ghost use Rattle.dot.specs.Text.{headText, joint, numbersText, stateText, ruleText, statesText, rulesText, drawingOf};
-ghost use Rattle.pen.specs.Pen.{places, stored, Put, alone, labelled, spelling};
+ghost use Rattle.pen.specs.Pen.{places, stored, Put, alone, labelled};
 
 // The drawing of a table that was read, so far as it fits; and how many bytes it has.
 pub fn write(table: &[u8], out: &mut [u8]) -> usize

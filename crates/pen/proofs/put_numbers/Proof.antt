@@ -4,8 +4,9 @@ use native.Mathlib.Omega.{arith}
 use borrow.Author.Needs.{needs}
 use lib.ListN.{length}
 use Rattle.fault.specs.Bytes.{byteAt}
+use Rattle.dot.specs.Numbers.{spelling}
 use Rattle.dot.specs.Text.{numbersText}
-use Rattle.pen.specs.Pen.{alone, spelling}
+use Rattle.pen.specs.Pen.{alone}
 use Rattle.pen.proofs.PenLaws.{Rest, rest-all}
 use Rattle.pen.proofs.TextLaws.{numbers-first}
 use Rattle.pen.proofs.PartLaws.{numbers-turn, numbers-end}

@@ -26,7 +26,7 @@ move-on-spec =
     (λ c κs. let st = c .before .before .before .before .before .before .before .before in
     let a = st .args in
     let v = c .before .before .before .before .to .result in
-    (st .pre .0 .bounded, record { board = st .pre .2; type = c .before .if1 .taken }, holds-put (a .s) 1000000 (a .w .now) (a .p) v (st .pre .4) (omega (arith, c .before .before .before .before .to .ensures .1))))
+    (st .pre .0 .bounded, record { board = st .pre .2; type = omega (arith, c .before .if1 .taken) }, holds-put (a .s) 1000000 (a .w .now) (a .p) v (st .pre .4) (omega (arith, c .before .before .before .before .to .ensures .1))))
     (λ c. let a = c .before .before .before .before .before .before .before .before .before .before .before .args in
     ap length (c .before .before .tell .ensures) ∙ length-set (set (a .w .now) (a .p) (c .before .before .before .before .before .before .before .to .result)) _ _ ∙ length-set (a .w .now) (a .p) (c .before .before .before .before .before .before .before .to .result))
     (λ c. let st = c .before .before .before .before .before .before .before .before .before .before .before in
