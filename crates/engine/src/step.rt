@@ -215,7 +215,7 @@ fn move_on(table: &[u8], s: Sizes, ends: &[u8], w: &mut [u64], p: usize, r: usiz
     requires { ⌜ (Suits s (now table)) × (EndsTo (s .types) (now table) (now ends) (s .rules)) × (p < s .correct) × (r < s .rules) × (Holds s 1000000 (now w)) ⌝ }
     ensures { λ x. ⌜ now (w .exit) ≡ words.tell (s .correct) (s .types) (forms.wide (s .form)) (missing (tables.sentOf (now (table .entry)) (toOf (now (table .entry)) r)) (tables.sentOf (now (table .entry)) (fromOf (now (table .entry)) r))) (forms.bump (s .form) (columnIn s .own p)) (s .types) (set (now (w .entry)) p (toOf (now (table .entry)) r)) ⌝ }
 {
-    w[p] = rules::to(table, s, ends, r) as u64;
+    words::enter(w, p, rules::to(table, s, ends, r) as u64);
     let m = rules::sends(table, s, ends, r);
     if m < s.types {
         words::tell(s, w, p, m);

@@ -1,6 +1,6 @@
 // The words of a configuration: where a cell and a sent word stand, what they show, and the changes that a step makes.
 ghost use mathlib.Core.Path.{_≡_};
-ghost use Prim.Native.Nat.{_+_, _≤_};
+ghost use Prim.Native.Nat.{_+_, _≤_, _<_};
 ghost use lib.ListN.{length, set};
 ghost use Rattle.paper.specs.Words.{cellAt, sentAt};
 ghost use Rattle.paper.specs.Words as words;
@@ -54,6 +54,17 @@ pub fn in_transit(s: Sizes, w: &[u64], p: usize, m: usize, q: usize) -> bool
     let j = i + form::slot(s.form, 1);
     let k = sent_at(s, m);
     form::in_transit(s.form, s.correct, s.faulty, q, w[i], w[j], w[k])
+}
+
+// Board p enters a state; the word is written only where that changes it.
+pub fn enter(w: &mut [u64], p: usize, state: u64)
+    requires { ⌜ (p < length (now w)) × (p ≤ 576) ⌝ }
+    ensures { λ r. ⌜ now (w .exit) ≡ set (now (w .entry)) p state ⌝ }
+{
+    if w[p] == state {
+        return;
+    }
+    w[p] = state;
 }
 
 // Board p receives it.
