@@ -32,6 +32,7 @@ pub mod compare;
 pub mod drawings;
 pub mod fast;
 mod ffi;
+pub mod growth;
 pub mod model;
 pub mod parts;
 pub mod refusals;
