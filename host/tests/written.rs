@@ -1,0 +1,193 @@
+//! A step changes the words that the outline gives it, and no other: the run of every prefix of a seeded schedule, in both forms,
+//! beside the run of the prefix one step shorter. `SEEDS=n` tries more than 2,000. What is stored without a change is counted by
+//! tests/written.
+
+use macaroosh::bundles::{bundle, closed, each_seed, seeds, Dice};
+use macaroosh::compare::compare;
+use macaroosh::fast::Fast;
+use macaroosh::growth::{growth, places};
+use macaroosh::model::{read, Bundle, Configuration, Messages, Model, Outline};
+use macaroosh::{Bench, Library, Refusal, Step, ECHO, MOST_WORDS};
+use std::collections::BTreeMap;
+
+// The bundle that the seed names and its translation, up to the first step that is refused.
+fn both_forms(seed: u64) -> [Vec<u8>; 2] {
+    let own = bundle(&mut Dice::new(seed));
+    let accepted = Model.run(&own, &ECHO, &mut [0; MOST_WORDS]).count as usize;
+    let own = prefix(&own, accepted);
+    let mut other = vec![0; own.len()];
+    let answer = Model.translate(&own, &ECHO, &mut other);
+    assert_eq!(answer.refusal, 0, "seed {seed}");
+    [own, other]
+}
+
+// The bundle with so many of its steps.
+fn prefix(bytes: &[u8], count: usize) -> Vec<u8> {
+    let bundle = read(bytes, &ECHO).expect("a bundle");
+    let trailer = bytes.len() - 8;
+    let before = &bytes[..trailer - 4 * bundle.steps.len()];
+    let numbers = [4, 5, 6, 7].map(|i| bytes[trailer + i]);
+    closed(before, &bundle.steps[..count], bundle.correct(), numbers)
+}
+
+// The words of the places that the step changes: the state only where its rule leads to another.
+fn changes(bundle: &Bundle, step: Step) -> Vec<usize> {
+    let rule = &bundle.table.rules[usize::from(step.rule)];
+    places(bundle, step).split_off(usize::from(rule.from == rule.to))
+}
+
+// How often steps changed so many words, or the step that changed others.
+fn changed(bench: &dyn Bench, bytes: &[u8], dice: &mut Dice) -> Result<Vec<usize>, String> {
+    let bundle = read(bytes, &ECHO).expect("a bundle");
+    let room = bundle.start().words().len();
+    let junk: Vec<u64> = (0..room + dice.between(0, 9)).map(|_| dice.junk()).collect();
+    let left = |count| {
+        let mut words = junk.clone();
+        let answer = bench.run(&prefix(bytes, count), &ECHO, &mut words);
+        assert_eq!((answer.refusal, answer.count as usize), (0, count));
+        words
+    };
+    let mut before = left(0);
+    let mut counts = Vec::new();
+    for (i, &step) in bundle.steps.iter().enumerate() {
+        let after = left(i + 1);
+        let differ: Vec<usize> = (0..after.len()).filter(|&at| after[at] != before[at]).collect();
+        let expected = changes(&bundle, step);
+        if differ != expected {
+            return Err(format!("step {i}, {step:?}, changes {differ:?} in place of {expected:?}"));
+        }
+        counts.push(differ.len());
+        before = after;
+    }
+    Ok(counts)
+}
+
+// Changes what it should on every seed in both forms, and the seeds come to every number of words in each.
+fn changes_what_it_should(bench: &(dyn Bench + Sync)) {
+    let seeds = seeds("SEEDS", 2_000);
+    let mut seen: BTreeMap<(bool, usize), usize> = BTreeMap::new();
+    let made = each_seed(seeds, |seed| {
+        both_forms(seed).map(|bytes| {
+            let counts = changed(bench, &bytes, &mut Dice::new(seed));
+            let counts = counts.unwrap_or_else(|step| panic!("seed {seed}: {step}\nbundle {bytes:02x?}"));
+            (bytes[bytes.len() - 1] == 1, counts)
+        })
+    });
+    for (counting, counts) in made.into_iter().flatten() {
+        counts.into_iter().for_each(|count| *seen.entry((counting, count)).or_default() += 1);
+    }
+    println!("{seeds} schedules, steps by form and words changed: {seen:?}");
+    let all = [false, true].map(|counting| [0, 1, 2, 3].map(|count| (counting, count))).concat();
+    assert_eq!(seen.into_keys().collect::<Vec<_>>(), all);
+}
+
+#[test]
+fn a_step_of_the_library_changes_what_it_should() {
+    changes_what_it_should(&Library);
+}
+
+#[test]
+fn a_step_of_the_fast_version_changes_what_it_should() {
+    changes_what_it_should(&Fast);
+}
+
+#[test]
+fn both_change_what_they_should_where_a_step_is_measured() {
+    for pair in growth() {
+        for bench in [&Library as &dyn Bench, &Fast] {
+            for bundle in &pair.bundles {
+                let compared = compare(&Model, bench, bundle, &ECHO, &mut Dice::new(1));
+                assert!(compared.is_ok(), "{} of {} boards: {compared:?}", pair.kind, pair.correct);
+            }
+            let counts = changed(bench, &pair.bundles[1], &mut Dice::new(1));
+            assert!(counts.is_ok(), "{} of {} boards: {counts:?}", pair.kind, pair.correct);
+        }
+    }
+}
+
+// A model whose steps write more than the outline says.
+struct WritesMore(fn(&Bundle, &mut Configuration, Step));
+
+impl Outline for WritesMore {
+    fn run_steps(&self, bundle: &Bundle) -> (Configuration, Option<Refusal>) {
+        let mut left = bundle.start();
+        for &step in &bundle.steps {
+            bundle.apply(&mut left, step);
+            (self.0)(bundle, &mut left, step);
+        }
+        (left, None)
+    }
+}
+
+fn next_board(bundle: &Bundle, step: Step) -> usize {
+    (usize::from(step.board) + 1) % bundle.correct()
+}
+
+fn nothing(bundle: &Bundle) -> Messages {
+    bundle.start().sent[0].clone()
+}
+
+fn clears_the_next_cell(bundle: &Bundle, left: &mut Configuration, step: Step) {
+    if !step.silent() && bundle.correct() > 1 {
+        left.received[next_board(bundle, step)][usize::from(step.kind)] = nothing(bundle);
+    }
+}
+
+fn clears_another_type(bundle: &Bundle, left: &mut Configuration, step: Step) {
+    if !step.silent() && bundle.table.types > 1 {
+        let another = (usize::from(step.kind) + 1) % bundle.table.types;
+        left.received[usize::from(step.board)][another] = nothing(bundle);
+    }
+}
+
+fn sends_another_type(bundle: &Bundle, left: &mut Configuration, step: Step) {
+    if let Some(sent) = bundle.sends(&bundle.table.rules[usize::from(step.rule)]) {
+        left.sent[(sent + 1) % bundle.table.types] = left.sent[sent].clone();
+    }
+}
+
+fn moves_the_next_board(bundle: &Bundle, left: &mut Configuration, step: Step) {
+    left.states[next_board(bundle, step)] = left.states[usize::from(step.board)];
+}
+
+fn writes_both_counts(bundle: &Bundle, left: &mut Configuration, step: Step) {
+    if bundle.counting && !step.silent() {
+        let cell = &mut left.received[usize::from(step.board)][usize::from(step.kind)];
+        let (correct, _) = cell.counts(0);
+        *cell = Messages::Counts(correct, correct);
+    }
+}
+
+#[test]
+fn one_word_more_is_caught() {
+    let broken: [(&str, WritesMore); 5] = [
+        ("clears the next board's cell", WritesMore(clears_the_next_cell)),
+        ("clears the cell of another type", WritesMore(clears_another_type)),
+        ("writes the sent word of another type", WritesMore(sends_another_type)),
+        ("moves the next board too", WritesMore(moves_the_next_board)),
+        ("writes both counts of a cell", WritesMore(writes_both_counts)),
+    ];
+    for (name, bench) in broken {
+        for (form, counting) in [("message", false), ("counting", true)] {
+            let caught = (1..=500).find(|&seed| {
+                both_forms(seed)
+                    .iter()
+                    .filter(|bytes| (bytes[bytes.len() - 1] == 1) == counting)
+                    .any(|bytes| changed(&bench, bytes, &mut Dice::new(seed)).is_err())
+            });
+            match caught {
+                Some(seed) => println!("{name}, {form} form: seed {seed}"),
+                // Message form has no counts.
+                None => assert_eq!((name, counting), ("writes both counts of a cell", false), "not caught"),
+            }
+        }
+    }
+}
+
+#[test]
+fn no_word_more_is_not_caught() {
+    let sound = WritesMore(|_, _, _| {});
+    assert!(
+        (1..=200).all(|seed| both_forms(seed).iter().all(|bytes| changed(&sound, bytes, &mut Dice::new(seed)).is_ok()))
+    );
+}
