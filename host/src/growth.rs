@@ -24,7 +24,7 @@ pub struct Pair {
     pub correct: usize,
     /// The bundles without and with that step.
     pub bundles: [Vec<u8>; 2],
-    /// The words that it has to do with, by their places.
+    /// The words that it changes, by their places.
     pub places: Vec<usize>,
     /// How many stores the run without it makes, where each word is begun once and each step stores those that it has to do with.
     pub stores: usize,
@@ -43,17 +43,18 @@ pub fn growth() -> Vec<Pair> {
     pairs
 }
 
-/// Where the words are that a step has to do with, by the outline's order of words: the state of its board, the word of a cell
-/// that its source changes, the sent word of the type that its rule sends.
+/// Where the words are that a step changes, by the outline's order of words: the state of its board where the rule leads to
+/// another, the word of a cell that its source changes, the sent word of the type that its rule sends.
 pub fn places(bundle: &Bundle, step: Step) -> Vec<usize> {
     let (p, m, q) = (usize::from(step.board), usize::from(step.kind), usize::from(step.source));
     let (correct, types) = (bundle.correct(), bundle.table.types);
     let wide = if bundle.counting { 2 } else { 1 };
-    let mut places = vec![p];
+    let rule = &bundle.table.rules[usize::from(step.rule)];
+    let mut places = if rule.from == rule.to { Vec::new() } else { vec![p] };
     if !step.silent() {
         places.push(correct + wide * (types * p + m) + if bundle.counting { q } else { 0 });
     }
-    if let Some(sent) = bundle.sends(&bundle.table.rules[usize::from(step.rule)]) {
+    if let Some(sent) = bundle.sends(rule) {
         places.push(correct + wide * types * correct + sent);
     }
     places

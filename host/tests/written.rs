@@ -30,12 +30,6 @@ fn prefix(bytes: &[u8], count: usize) -> Vec<u8> {
     closed(before, &bundle.steps[..count], bundle.correct(), numbers)
 }
 
-// The words of the places that the step changes: the state only where its rule leads to another.
-fn changes(bundle: &Bundle, step: Step) -> Vec<usize> {
-    let rule = &bundle.table.rules[usize::from(step.rule)];
-    places(bundle, step).split_off(usize::from(rule.from == rule.to))
-}
-
 // How often steps changed so many words, or the step that changed others.
 fn changed(bench: &dyn Bench, bytes: &[u8], dice: &mut Dice) -> Result<Vec<usize>, String> {
     let bundle = read(bytes, &ECHO).expect("a bundle");
@@ -52,7 +46,7 @@ fn changed(bench: &dyn Bench, bytes: &[u8], dice: &mut Dice) -> Result<Vec<usize
     for (i, &step) in bundle.steps.iter().enumerate() {
         let after = left(i + 1);
         let differ: Vec<usize> = (0..after.len()).filter(|&at| after[at] != before[at]).collect();
-        let expected = changes(&bundle, step);
+        let expected = places(&bundle, step);
         if differ != expected {
             return Err(format!("step {i}, {step:?}, changes {differ:?} in place of {expected:?}"));
         }
