@@ -1,6 +1,7 @@
 // The form, on numbers: what the words of a cell and a sent word come to. Nothing above looks at the form's number.
 ghost use mathlib.Core.Path.{_≡_};
 ghost use Prim.Native.Nat.{_+_, _≤_, _<_};
+ghost use Rattle.senders.specs.Tally.{least};
 ghost use Rattle.fault.specs.Fault.{_if_else_};
 ghost use Rattle.paper.specs.Paper.{passing, counting, column};
 ghost use Rattle.paper.specs.Form.{two, coll, shown};
@@ -84,4 +85,35 @@ fn choose(test: bool, x: u64, y: u64) -> u64
     ensures { λ r. ⌜ r ≡ (x if test else y) ⌝ }
 {
     if test { x } else { y }
+}
+
+// The lowest source of a message in transit, by the same words; as many as there are sources where there is none.
+pub fn first_source(form: usize, c: usize, f: usize, v: u64, w: u64, out: u64) -> usize
+    requires { ⌜ c + f ≤ 64 ⌝ }
+    ensures { λ r. ⌜ r ≡ least (column form c f .sources) (λ q. column form c f .inTransit q (coll form c f (two v w)) (shown form c f out)) ⌝ }
+{
+    if form == 0 {
+        first_sender(c, f, v, out)
+    } else {
+        first_tag(c, f, v, w, out)
+    }
+}
+
+fn first_sender(c: usize, f: usize, got: u64, out: u64) -> usize
+    requires { ⌜ c + f ≤ 64 ⌝ }
+    ensures { λ r. ⌜ r ≡ least (c + f) (λ q. passing c f .inTransit q got out) ⌝ }
+{
+    senders::lowest_in_transit(out, got, c as u64, (c + f) as u64) as usize
+}
+
+fn first_tag(c: usize, f: usize, v: u64, w: u64, out: u64) -> usize
+    ensures { λ r. ⌜ r ≡ least 2 (λ q. counting c f .inTransit q (coll 1 c f (two v w)) (shown 1 c f out)) ⌝ }
+{
+    if v < out {
+        return 0;
+    }
+    if w < f as u64 {
+        return 1;
+    }
+    2
 }

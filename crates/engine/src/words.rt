@@ -2,6 +2,7 @@
 ghost use mathlib.Core.Path.{_≡_};
 ghost use Prim.Native.Nat.{_+_, _≤_, _<_};
 ghost use lib.ListN.{length, set};
+ghost use Rattle.senders.specs.Tally.{least};
 ghost use Rattle.paper.specs.Words.{cellAt, sentAt};
 ghost use Rattle.paper.specs.Words as words;
 ghost use Rattle.paper.specs.Form as forms;
@@ -67,7 +68,18 @@ pub fn enter(w: &mut [u64], p: usize, state: u64)
     w[p] = state;
 }
 
-// Board p receives it.
+// The lowest source of a message of type m in transit to board p; as many as there are sources where there is none.
+pub fn first_source(s: Sizes, w: &[u64], p: usize, m: usize) -> usize
+    requires { ⌜ (Bounded s) × (At s p m) × (length (now w) ≡ roomOf s) ⌝ }
+    ensures { λ r. ⌜ r ≡ least (columnIn s .sources) (transitIn s (now (w .entry)) p m) ⌝ }
+{
+    let i = cell_at(s, p, m);
+    let j = i + form::slot(s.form, 1);
+    let k = sent_at(s, m);
+    form::first_source(s.form, s.correct, s.faulty, w[i], w[j], w[k])
+}
+
+// Board p receives the message of type m from q.
 pub fn hear(s: Sizes, w: &mut [u64], p: usize, m: usize, q: usize)
     requires { ⌜ (Bounded s) × (At s p m) × (Source s q) × (Holds s 1000000 (now w)) ⌝ }
     ensures { λ r. ⌜ now (w .exit) ≡ words.hear (s .correct) (s .types) (forms.wide (s .form)) p m (forms.slot (s .form) q) (forms.bump (s .form) q) (now (w .entry)) ⌝ }

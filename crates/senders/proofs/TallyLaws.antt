@@ -248,6 +248,11 @@ least-found (suc k) P h = go (P 0) refl h (least-found k (λ i. P (suc i)))
     go true e h ih = e
     go false e h ih = ih (le-of-suc-le-suc h)
 
+pub least-none : (k : ℕ) (P : ℕ → Bool) → ((i : ℕ) → i < k → P i ≡ false) → least k P ≡ k
+unfolding least
+least-none zero P f = refl
+least-none (suc k) P f = rw (f 0 (zero-lt-suc k)) (ap suc (least-none k (λ i. P (suc i)) (λ i h. f (suc i) (omega arith))))
+
 -- a search over k numbers, cut at c: Q passes below c what P passes
 pub record Cut (c k : ℕ) (P Q : ℕ → Bool) : Type 0 where
   pub below : least k Q < c → least k Q ≡ least c P

@@ -82,14 +82,15 @@ on-way true true g = sym (or-false g)
 on-way true false g = refl
 on-way false b g = refl
 
+pub missing-transit : (c s o q : ℕ) → c ≤ 64 → s < 2 ^ 64 → q < 64 → missing ((2 ^ 64 - 1) - bitAnd (2 ^ c - 1) ((2 ^ 64 - 1) - s)) o q ≡ (ltb q c && missing s o q || leb c q && not (mem o q))
+missing-transit c s o q k h l =
+    let below : bitAnd (2 ^ c - 1) ((2 ^ 64 - 1) - s) < 2 ^ 64 = lt-of-le-of-lt (and-le-l (2 ^ c - 1) ((2 ^ 64 - 1) - s)) (omega (arith, pow-pos c, pow-mono {i = c} {j = 64} k)) in
+    ap (λ (b : Bool). b && not (mem o q)) (mem-not 64 _ q below l ∙ ap not (mem-missing (2 ^ c - 1) s q h l ∙ ap (λ (b : Bool). b && not (mem s q)) (mem-mask c q)))
+    ∙ on-way (ltb q c) (mem s q) (not (mem o q)) ∙ ap (λ (b : Bool). ltb q c && missing s o q || b && not (mem o q)) (not-ltb q c)
+
 pub mem-transit : {m : ℕ} (c s o q : ℕ) → m ≡ 2 ^ c - 1 → c ≤ 64 → s < 2 ^ 64 → o < 2 ^ 64 → q < 64
     → mem (bitAnd ((2 ^ 64 - 1) - bitAnd m ((2 ^ 64 - 1) - s)) ((2 ^ 64 - 1) - o)) q ≡ (ltb q c && missing s o q || leb c q && not (mem o q))
-mem-transit c s o q e k h i l =
-    let below : bitAnd (2 ^ c - 1) ((2 ^ 64 - 1) - s) < 2 ^ 64 = lt-of-le-of-lt (and-le-l (2 ^ c - 1) ((2 ^ 64 - 1) - s)) (omega (arith, pow-pos c, pow-mono {i = c} {j = 64} k)) in
-    rw e
-    (mem-missing _ o q i l
-    ∙ ap (λ (b : Bool). b && not (mem o q)) (mem-not 64 _ q below l ∙ ap not (mem-missing (2 ^ c - 1) s q h l ∙ ap (λ (b : Bool). b && not (mem s q)) (mem-mask c q)))
-    ∙ on-way (ltb q c) (mem s q) (not (mem o q)) ∙ ap (λ (b : Bool). ltb q c && missing s o q || b && not (mem o q)) (not-ltb q c))
+mem-transit c s o q e k h i l = rw e (mem-missing _ o q i l ∙ missing-transit c s o q k h l)
 
 -- ---- counts of ones
 ones-digit : (x : ℕ) → x < 2 → ones x ≡ digit (eqb x 1)
@@ -155,10 +156,13 @@ module _ (s o c : ℕ) (l : c ≤ 64) (h : o < 2 ^ 64) where
   pub lowest-none : c ≤ zeros → c ≡ least c (missing s o)
   lowest-none b = cut .none (rw (← trailing-least 64 (bitAnd s ((2 ^ 64 - 1) - o))) b)
 
--- the lowest of the correct senders, and of the faulty ones, as the code asks for them with the mask m in hand
+-- the lowest of the correct senders, of the faulty ones, and of those in transit, as the code asks for them with the mask m in hand
 module _ {m r : ℕ} (c n : ℕ) (e : m ≡ 2 ^ c - 1) where
   pub lowest-correct : (s o : ℕ) → r ≡ least n (missing (bitAnd m s) o) → r ≡ least n (λ q. ltb q c && missing s o q)
   lowest-correct s o h = rw e at h ∙ least-same n _ _ (λ q l. mem-first c s o q)
 
   pub lowest-faulty : (o : ℕ) → c ≤ 64 → n ≤ 64 → r ≡ least n (missing ((2 ^ 64 - 1) - m) o) → r ≡ least n (λ q. leb c q && not (mem o q))
   lowest-faulty o k b h = rw e at h ∙ least-same n _ _ (λ q l. mem-rest c o q k (omega arith))
+
+  pub lowest-transit : (s o : ℕ) → c ≤ 64 → n ≤ 64 → s < 2 ^ 64 → r ≡ least n (missing ((2 ^ 64 - 1) - bitAnd m ((2 ^ 64 - 1) - s)) o) → r ≡ least n (λ q. ltb q c && missing s o q || leb c q && not (mem o q))
+  lowest-transit s o k b i h = rw e at h ∙ least-same n _ _ (λ q l. missing-transit c s o q k i (omega arith))

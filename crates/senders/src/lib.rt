@@ -90,3 +90,11 @@ pub fn lowest_faulty(set: u64, c: u64, n: u64) -> u64
 {
     lowest_missing(!first(c), set, n)
 }
+
+// The lowest sender below n whose message is on its way; n where none is.
+pub fn lowest_in_transit(sent: u64, got: u64, c: u64, n: u64) -> u64
+    requires { ⌜ (c ≤ 64) × (n ≤ 64) ⌝ }
+    ensures { λ r. ⌜ (r ≡ least n (λ q. ltb q c && missing sent got q || leb c q && not (mem got q))) × (r ≤ n) ⌝ }
+{
+    lowest_missing(!(first(c) & !sent), got, n)
+}

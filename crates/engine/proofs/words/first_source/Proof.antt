@@ -1,0 +1,35 @@
+use mathlib.Core.Path.{ap, ap₂, _∙_}
+use Prim.Native.Nat.{ℕ, _+_}
+use native.Mathlib.Omega.{arith}
+use borrow.Author.Needs.{needs}
+use Rattle.senders.specs.Tally.{least}
+use Rattle.engine.proofs.PlaceLaws.{coll-words, sent-in-room, sent-word}
+use Rattle.engine.specs.Words.{columnIn}
+use Rattle.paper.proofs.FormLaws.{wide-some, slot-one}
+use Rattle.paper.specs.Form.{wide, shown}
+use Rattle.engine.proofs.words.first_source.Statement.{statement}
+use Rattle.engine.proofs.words.first_source.Tie as tie
+
+pub first-source-spec : {M : Type 1} → statement M
+first-source-spec =
+    tie.close
+    (tie.spec
+    (λ c κs. search needs)
+    (λ c κs. search needs)
+    (λ c. search needs)
+    (λ c κs. search needs)
+    (λ c. search needs)
+    (λ c. let st = c .before .before .before .before .before in
+    let a = st .args in
+    omega (arith, st .pre .2, wide-some (a .s .form) .0, c .before .before .before .cell-at .ensures .1))
+    (λ c. search needs)
+    (λ c. let st = c .before .before .before .before .before .before in
+    let a = st .args in
+    omega (arith, st .pre .2, c .before .before .before .slot .ensures .0, slot-one (a .s .form), c .before .before .before .before .cell-at .ensures .1))
+    (λ c. search needs)
+    (λ c. let st = c .before .before .before .before .before .before .before in
+    let a = st .args in
+    omega (arith, st .pre .2, c .before .before .before .sent-at .ensures .0, sent-in-room (a .s) (a .m) (st .pre .1 .type)))
+    (λ c κs. search needs)
+    (λ c. let a = c .before .before .before .before .before .before .before .before .args in
+    c .first-source .ensures ∙ ap₂ (λ got out. least (columnIn (a .s) .sources) (λ q. columnIn (a .s) .inTransit q got out)) (coll-words (a .s .form) (a .s .correct) (a .s .faulty) (a .s .types) (a .p) (a .m) (a .w .now) (c .before .before .before .before .before .before .cell-at .ensures .0) (ap (λ (x : ℕ). c .before .before .before .before .before .before .cell-at .result + x) (c .before .before .before .before .before .slot .ensures .0))) (ap (shown (a .s .form) (a .s .correct) (a .s .faulty)) (sent-word (a .s .correct) (a .s .types) (wide (a .s .form)) (a .m) (a .w .now) (c .before .before .before .before .sent-at .ensures .0)))))

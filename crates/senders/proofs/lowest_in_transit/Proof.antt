@@ -1,0 +1,14 @@
+use borrow.Author.Needs.{needs}
+use Rattle.senders.proofs.WordLaws.{lowest-transit}
+use Rattle.senders.proofs.lowest_in_transit.Statement.{statement}
+use Rattle.senders.proofs.lowest_in_transit.Tie as tie
+
+pub lowest-in-transit-spec : {M : Type 1} → statement M
+lowest-in-transit-spec =
+    tie.close
+    (tie.spec
+    (λ c κs. search needs)
+    (λ c κs. search needs)
+    (λ c. let st = c .before .before in
+    let a = st .args in
+    (lowest-transit (a .c) (a .n) (c .before .first .ensures) (a .sent) (a .got) (st .pre .0) (st .pre .1) (st .fits .sent .fits) (c .lowest-missing .ensures .0), c .lowest-missing .ensures .1)))
