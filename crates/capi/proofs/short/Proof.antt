@@ -1,4 +1,5 @@
 use mathlib.Core.Path.{refl}
+use native.Mathlib.Omega.{arith}
 use borrow.Author.Tests.{lt-ltb, le-ltb}
 use Rattle.fault.proofs.FaultLaws.{if-yes, if-no}
 use Rattle.capi.proofs.short.Statement.{statement}
@@ -8,5 +9,5 @@ pub short-spec : {M : Type 1} → statement M
 short-spec =
     tie.close
     (tie.spec
-    (λ c. if-yes _ refl refl (lt-ltb _ _ (c .if1 .taken)))
+    (λ c. if-yes _ refl refl (lt-ltb (c .before .args .place) 16777216 (omega (arith, c .if1 .taken))))
     (λ c. if-no _ refl (le-ltb _ _ (c .if1 .left)) refl))
