@@ -26,16 +26,29 @@ extern "C" {
 /* Runs a bundle. With C = n - f boards and T types the configuration is left in the lent words, of which
  * MACAROOSH_MOST_WORDS are always enough (`words_length` counts words, not bytes):
  *   message form:  C states; C * T received sets, board by board, bit q for sender q; T sent sets;
- *   counting form: C states; for each board and type the correct count and then the faulty one; T sent counts.
+ *   counting form: C states; for each board and type the correct count and then the faulty one; T sent counts;
+ *   plain form:    C states; for each board and type one count; T sent counts.
  * Answers packed: refusal, place, steps accepted. A run refused at step i (20 to 25) leaves the configuration after i steps;
  * any other refusal leaves the words as they were. Words past the needed ones never change. */
 uint64_t macaroosh_run(const uint8_t *bundle, size_t bundle_length, const uint8_t *standing, size_t standing_length,
                        uint64_t *words, size_t words_length);
 
-/* Writes the bundle in the other form (message to counting, counting to message) to the lent bytes; it is as long as the
- * bundle itself. Answers packed: refusal, place, bytes written. Any refusal leaves the bytes as they were. */
+/* Writes the bundle in the other form (message to counting, counting to message, plain to counting) to the lent bytes; it is
+ * as long as the bundle itself. Answers packed: refusal, place, bytes written. Any refusal leaves the bytes as they were. */
 uint64_t macaroosh_translate(const uint8_t *bundle, size_t bundle_length, const uint8_t *standing, size_t standing_length,
                              uint8_t *out, size_t out_length);
+
+/* The forms of a schedule, by number. */
+#define MACAROOSH_MESSAGE 0
+#define MACAROOSH_COUNTING 1
+#define MACAROOSH_PLAIN 2
+
+/* The same to the form asked for. The bundle's own form, and any number that is no form, is refused with 31; all 64 bits are
+ * looked at. From message form each sender becomes 0 (correct) or 1 (faulty); to plain form every source becomes 0; from plain
+ * form a message is a correct one where one is in transit, otherwise a faulty one; to message form it is the lowest sender of
+ * its class in transit. Between message and plain form it goes by way of counting form. */
+uint64_t macaroosh_translate_to(const uint8_t *bundle, size_t bundle_length, const uint8_t *standing, size_t standing_length,
+                                uint64_t form, uint8_t *out, size_t out_length);
 
 /* The first step that is possible after the whole schedule: by board, then rule, then no message before type and source. A
  * wait, which has no message and whose rule's from is its to, is accepted but is not possible. Answers a packed step; none is
@@ -67,8 +80,9 @@ uint64_t macaroosh_undraw(const uint8_t *text, size_t text_length, uint8_t *out,
  *    3 distances disagree with counts or length     4 a state's flags or sent mask [state]
  *    5 no initial state                             6 from or to is no state [rule]
  *    7 the rule forgets a sent type [rule]          8 the rule sends two new types [rule]
- *   12 n, t, f not admitted, or form over 1        13 the schedule's distances
- *   14 a start is not an initial state [board]     30 lent output too short (run, translate)
+ *   12 n, t, f not admitted, or form over 2        13 the schedule's distances
+ *   14 a start is not an initial state [board]     31 its own form is asked for, or none (translate_to)
+ *   30 lent output too short (run, translate, translate_to)
  *   20 board not below n - f [step]                21 rule not in the table [step]
  *   22 rule does not leave the state [step]        23 type or source out of range [step]
  *   24 message not in transit [step]               25 a threshold is not met [step]
@@ -81,7 +95,7 @@ static inline uint32_t macaroosh_count(uint64_t packed) { return (uint32_t)(pack
 
 /* A packed step: the refusal in bits 0 to 7 (by macaroosh_refusal), the place in bits 8 to 23; bit 24 is 1 where a step is
  * given; then its four bytes are in bits 32 to 63. Type and source are both 255 where the step receives nothing; the source
- * is the sender in message form, and 0 for correct or 1 for faulty in counting form. */
+ * is the sender in message form, 0 for correct or 1 for faulty in counting form, and 0 in plain form. */
 static inline uint32_t macaroosh_step_place(uint64_t packed) { return (uint32_t)(packed >> 8 & 0xFFFF); }
 static inline int macaroosh_step_given(uint64_t packed) { return (int)(packed >> 24 & 1); }
 static inline uint8_t macaroosh_step_board(uint64_t packed) { return (uint8_t)(packed >> 32); }

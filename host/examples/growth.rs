@@ -30,7 +30,7 @@ fn main() -> ExitCode {
 
 fn write(folder: &str) -> Result<(), String> {
     for pair in growth() {
-        let form = if pair.counting { "counting" } else { "message" };
+        let form = pair.form.name();
         let name = format!("{form}-{}-{}-{}", pair.types, pair.kind, pair.correct);
         for (which, bundle) in pair.bundles.iter().enumerate() {
             let file = format!("{folder}/{name}-{which}");
@@ -44,11 +44,11 @@ fn write(folder: &str) -> Result<(), String> {
 }
 
 fn ask(side: &str, name: &str, which: &str) -> Result<(), String> {
-    let nothing = u64::from(side.is_empty());
+    let more = More { nothing: u64::from(side.is_empty()) };
     let bench: &dyn Bench = match side {
         "library" => &Library,
         "rust" => &Fast,
-        "more" => &More { nothing },
+        "more" => &more,
         _ => return Err(format!("there is no side '{side}'")),
     };
     let which = usize::from(which == "1");
@@ -83,6 +83,10 @@ impl Bench for More {
 
     fn translate(&self, bundle: &[u8], standing: &[u8], out: &mut [u8]) -> Answer {
         Library.translate(bundle, standing, out)
+    }
+
+    fn translate_to(&self, bundle: &[u8], standing: &[u8], form: u64, out: &mut [u8]) -> Answer {
+        Library.translate_to(bundle, standing, form, out)
     }
 
     fn first_step(&self, bundle: &[u8], standing: &[u8]) -> First {

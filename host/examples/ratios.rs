@@ -40,14 +40,6 @@ fn questions(case: &Case) -> &'static [&'static str] {
     }
 }
 
-fn form(case: &Case) -> &'static str {
-    if case.counting {
-        "counting"
-    } else {
-        "message"
-    }
-}
-
 fn ratios() -> Result<(), String> {
     if std::env::var_os("MACAROOSH_RUNNER").is_some() {
         eprintln!("times under an emulator say nothing: tests/instructions counts instead");
@@ -58,7 +50,11 @@ fn ratios() -> Result<(), String> {
         for question in questions(&case) {
             let [library, rust] = times(&case.bundle, question);
             let ratio = library / rust;
-            println!("{:<12} {:<9} {question:<9} {library:>12.1} {rust:>12.1} {ratio:>7.2}", case.name, form(&case));
+            println!(
+                "{:<12} {:<9} {question:<9} {library:>12.1} {rust:>12.1} {ratio:>7.2}",
+                case.name,
+                case.form.name()
+            );
         }
     }
     Ok(())
@@ -67,7 +63,7 @@ fn ratios() -> Result<(), String> {
 fn write(folder: &str) -> Result<(), String> {
     for case in cases() {
         agree(&case)?;
-        let name = format!("{}-{}", case.name, form(&case));
+        let name = format!("{}-{}", case.name, case.form.name());
         std::fs::write(format!("{folder}/{name}"), &case.bundle)
             .map_err(|cause| format!("{folder}/{name}: {cause}"))?;
         questions(&case).iter().for_each(|question| println!("{name} {question}"));
@@ -96,10 +92,10 @@ fn agree(case: &Case) -> Result<(), String> {
     };
     let told = answers(&Model);
     if told.run.map(|answer| answer.refusal) != Some(0) || case.stuck != (told.first == Some(Ok(None))) {
-        return Err(format!("{} in {} form is not as it should be", case.name, form(case)));
+        return Err(format!("{} in {} form is not as it should be", case.name, case.form.name()));
     }
     if told != answers(&Library) || told != answers(&Fast) {
-        return Err(format!("the benches differ on {} in {} form", case.name, form(case)));
+        return Err(format!("the benches differ on {} in {} form", case.name, case.form.name()));
     }
     Ok(())
 }

@@ -44,7 +44,7 @@ pub struct Step {
     pub rule: u8,
     /// The type of the message that it receives; 255 with source 255 for none.
     pub kind: u8,
-    /// The sender, or the tag: 0 correct, 1 faulty.
+    /// The sender; or the tag, 0 correct, 1 faulty; or 0 in plain form.
     pub source: u8,
 }
 
@@ -71,8 +71,11 @@ pub trait Bench {
     /// Runs a bundle beside a standing table and leaves the configuration in the lent words.
     fn run(&self, bundle: &[u8], standing: &[u8], words: &mut [u64]) -> Answer;
 
-    /// Writes the bundle in the other form to the lent bytes.
+    /// Writes the bundle in the other form to the lent bytes: message and plain to counting, counting to message.
     fn translate(&self, bundle: &[u8], standing: &[u8], out: &mut [u8]) -> Answer;
+
+    /// Writes the bundle in the form of that number to the lent bytes.
+    fn translate_to(&self, bundle: &[u8], standing: &[u8], form: u64, out: &mut [u8]) -> Answer;
 
     /// The first possible step after the whole schedule; a wait is none.
     fn first_step(&self, bundle: &[u8], standing: &[u8]) -> First;

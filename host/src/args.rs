@@ -1,5 +1,6 @@
 //! The words after the program's name.
 
+use macaroosh::Form;
 use std::ffi::{OsStr, OsString};
 use std::path::PathBuf;
 
@@ -34,8 +35,8 @@ pub struct Request {
 pub enum Command {
     /// The configuration that a schedule leaves.
     Run,
-    /// The bundle in the other form.
-    Translate,
+    /// The bundle in a form, or in the other form.
+    Translate(Option<Form>),
     /// The first possible step after the schedule.
     First,
     /// Each step.
@@ -90,12 +91,12 @@ impl Input {
 }
 
 const COMMANDS: &str = "run, trace, first, translate, draw, undraw";
-const OPTIONS: &str = "--standing, -o, --svg, --png, --plain, --help";
+const OPTIONS: &str = "--standing, -o, --to, --svg, --png, --plain, --help";
 
 /// Reads the words, or says what is wrong with them. Options may stand anywhere; after `--` there are none.
 pub fn parse(mut words: impl Iterator<Item = OsString>) -> Result<Asked, String> {
     let mut free: Vec<OsString> = Vec::new();
-    let (mut standing, mut output, mut image) = (None, None, None);
+    let (mut standing, mut output, mut to, mut image) = (None, None, None, None);
     let (mut plain, mut options_end, mut any) = (false, false, false);
     while let Some(word) = words.next() {
         any = true;
@@ -105,8 +106,9 @@ pub fn parse(mut words: impl Iterator<Item = OsString>) -> Result<Asked, String>
             "--" => options_end = true,
             "--help" | "-h" => return Ok(Asked::Help),
             "--plain" => plain = true,
-            "--standing" => once(&mut standing, Input::of(value(&mut words, "--standing")?), "--standing")?,
-            "-o" => once(&mut output, value(&mut words, "-o")?, "-o")?,
+            "--standing" => once(&mut standing, Input::of(value(&mut words, "--standing", "file")?), "--standing")?,
+            "-o" => once(&mut output, value(&mut words, "-o", "file")?, "-o")?,
+            "--to" => once(&mut to, form(&value(&mut words, "--to", "form")?)?, "--to")?,
             "--svg" => once(&mut image, Image::Svg, "--svg or --png")?,
             "--png" => once(&mut image, Image::Png, "--svg or --png")?,
             text => return Err(format!("there is no option '{text}'; the options are {OPTIONS}")),
@@ -119,7 +121,7 @@ pub fn parse(mut words: impl Iterator<Item = OsString>) -> Result<Asked, String>
     let command = match free.next() {
         None => return Err("which command: run, trace, first, translate, draw or undraw?".to_string()),
         Some(word) if word == "help" => return Ok(Asked::Help),
-        Some(word) => command(&word, image)?,
+        Some(word) => command(&word, to, image)?,
     };
     let what = command.reads();
     let input = Input::of(free.next().ok_or(format!("which {what}? Name a file, or '-' for standard input"))?);
@@ -136,28 +138,39 @@ pub fn parse(mut words: impl Iterator<Item = OsString>) -> Result<Asked, String>
     Ok(Asked::Answer(Request { command, input, standing, output, plain }))
 }
 
-fn command(word: &OsStr, image: Option<Image>) -> Result<Command, String> {
+fn command(word: &OsStr, to: Option<Form>, image: Option<Image>) -> Result<Command, String> {
     let command = match word.to_str() {
         Some("run") => Command::Run,
-        Some("translate") => Command::Translate,
+        Some("translate") => Command::Translate(to),
         Some("first") => Command::First,
         Some("trace") => Command::Trace,
-        Some("draw") => return Ok(Command::Draw(image)),
+        Some("draw") => Command::Draw(image),
         Some("undraw") => Command::Undraw,
         _ => {
             let word = word.to_string_lossy();
             return Err(format!("there is no command '{word}'; the commands are {COMMANDS}"));
         }
     };
-    match image {
-        None => Ok(command),
-        Some(_) => Err("--svg and --png are for draw alone".to_string()),
+    if image.is_some() && !matches!(command, Command::Draw(_)) {
+        return Err("--svg and --png are for draw alone".to_string());
     }
+    if to.is_some() && !matches!(command, Command::Translate(_)) {
+        return Err("--to is for translate alone".to_string());
+    }
+    Ok(command)
 }
 
-// The word after an option.
-fn value(words: &mut impl Iterator<Item = OsString>, option: &str) -> Result<OsString, String> {
-    words.next().ok_or(format!("{option} needs a file after it"))
+// The form that a word names.
+fn form(word: &OsStr) -> Result<Form, String> {
+    word.to_str().and_then(Form::named).ok_or_else(|| {
+        let forms = Form::ALL.map(Form::name).join(", ");
+        format!("there is no form '{}'; the forms are {forms}", word.to_string_lossy())
+    })
+}
+
+// The word after an option, which says what it is.
+fn value(words: &mut impl Iterator<Item = OsString>, option: &str, what: &str) -> Result<OsString, String> {
+    words.next().ok_or(format!("{option} needs a {what} after it"))
 }
 
 fn once<T>(slot: &mut Option<T>, value: T, option: &str) -> Result<(), String> {

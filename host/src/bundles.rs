@@ -1,6 +1,7 @@
 //! Bundles for tests: made by walking the model, damaged, or noise; the same for the same seed.
 
-use crate::answer::Step;
+use crate::answer::{Answer, Bench, Step};
+use crate::form::Form;
 use crate::model::{read, Bundle, Configuration, Model, Outline};
 use crate::ECHO;
 use std::panic::resume_unwind;
@@ -122,7 +123,7 @@ fn bundle_for(dice: &mut Dice, table: &[u8], own: bool) -> Vec<u8> {
     let n = if dice.once_in(4) { 64 } else { dice.between(1, 64) };
     let t = dice.between(0, (n - 1) / factor);
     let f = dice.between(0, t);
-    let form = dice.below(2) as u8;
+    let form = dice.below(Form::ALL.len()) as u8;
     let initial: Vec<u8> = (0..table[table.len() - 4]).filter(|&s| table[2 * usize::from(s)] & 1 == 1).collect();
     let mut bytes = if own { table.to_vec() } else { Vec::new() };
     bytes.extend((0..n - f).map(|_| dice.one_of(&initial)));
@@ -151,6 +152,31 @@ pub fn with(bytes: &[u8], step: Step) -> Vec<u8> {
     let (before, trailer) = bytes.split_at(bytes.len() - 8);
     let distance = |at: usize| (u16::from_le_bytes([trailer[at], trailer[at + 1]]) + 4).to_le_bytes();
     [before, &step.record(), &distance(0), &distance(2), &trailer[4..]].concat()
+}
+
+/// A bundle that runs beside the echo table, in a form: as it is, or as a bench translates it.
+pub fn in_form(bench: &dyn Bench, bytes: &[u8], form: Form) -> Vec<u8> {
+    let mut out = bytes.to_vec();
+    if bytes.last() != Some(&form.number()) {
+        let answer = bench.translate_to(bytes, &ECHO, u64::from(form.number()), &mut out);
+        assert_eq!(answer, Answer { refusal: 0, place: 0, count: bytes.len() as u32 }, "to {} form", form.name());
+    }
+    out
+}
+
+/// A number to ask for as a form: none of the forms' own, often one that has a form's in its lowest bytes.
+pub fn no_form(dice: &mut Dice) -> u64 {
+    let low = dice.below(Form::ALL.len()) as u64;
+    match dice.below(8) {
+        0 => 3,
+        1 => 255,
+        2 => 256 + low,
+        3 => (1 << 16) + low,
+        4 => (1 << 32) + low,
+        5 => (1 << 63) + low,
+        6 => u64::MAX,
+        _ => dice.junk() | 4,
+    }
 }
 
 fn walk(dice: &mut Dice, bundle: &Bundle) -> Vec<Step> {
@@ -206,7 +232,7 @@ fn guess(dice: &mut Dice, bundle: &Bundle, configuration: &Configuration) -> Opt
     Some(Step { board: board as u8, rule: rule as u8, kind: kind as u8, source: source as u8 })
 }
 
-/// The bundle with up to three bytes changed, often in its trailer, cut short now and then.
+/// The bundle with up to three bytes changed, often in its trailer, read in another form or cut short now and then.
 pub fn damaged(dice: &mut Dice, mut bytes: Vec<u8>) -> Vec<u8> {
     for _ in 0..dice.between(1, 3) {
         let length = bytes.len();
@@ -215,6 +241,11 @@ pub fn damaged(dice: &mut Dice, mut bytes: Vec<u8>) -> Vec<u8> {
         let any = dice.below(256) as u8;
         if let Some(byte) = bytes.get_mut(at) {
             *byte = dice.one_of(&[0, 1, 255, small, any]);
+        }
+    }
+    if dice.once_in(8) {
+        if let Some(form) = bytes.last_mut() {
+            *form = dice.one_of(&[0, 1, 2, 3, 255]);
         }
     }
     if dice.once_in(10) {

@@ -1,7 +1,8 @@
 //! The bundles that speed is measured on, all read beside the echo table. The model has accepted each of their steps.
 
-use crate::answer::{Bench, Step};
-use crate::bundles::{closed, little_endian, Dice};
+use crate::answer::Step;
+use crate::bundles::{closed, in_form, little_endian, Dice};
+use crate::form::Form;
 use crate::model::{read, Bundle, Configuration, Model, Outline};
 use crate::ECHO;
 
@@ -9,20 +10,18 @@ use crate::ECHO;
 pub struct Case {
     /// What it shows, in a word or two.
     pub name: &'static str,
-    /// Whether it is in counting form.
-    pub counting: bool,
+    /// Its form.
+    pub form: Form,
     /// Its bytes.
     pub bundle: Vec<u8>,
     /// Whether no step is possible after it, so that only the first-step question tells something.
     pub stuck: bool,
 }
 
-/// All cases, each in both forms.
+/// All cases, each in every form.
 pub fn cases() -> Vec<Case> {
     let of = |name, stuck, message: Vec<u8>| {
-        let mut counting = vec![0; message.len()];
-        Model.translate(&message, &ECHO, &mut counting);
-        [(false, message), (true, counting)].map(|(counting, bundle)| Case { name, counting, bundle, stuck })
+        Form::ALL.map(|form| Case { name, form, bundle: in_form(&Model, &message, form), stuck })
     };
     let all = [
         of("echo-w", false, w()),

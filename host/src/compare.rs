@@ -1,7 +1,7 @@
 //! Two benches on one bundle, table or drawing: every answer, and every lent word and byte.
 
 use crate::answer::{Answer, Bench, Draws, First};
-use crate::bundles::Dice;
+use crate::bundles::{no_form, Dice};
 use crate::drawings::{Drawing, Text};
 use crate::model::{read, read_table, Model};
 use std::fmt::Debug;
@@ -15,8 +15,8 @@ pub struct Alike {
     pub first: First,
 }
 
-/// Asks both benches all three questions, with lent memory that is empty, too short by one, exact and long, filled with
-/// the same junk for both. Gives what came up, or says where the benches differ.
+/// Asks both benches all questions, translation to each form and to none among them, with lent memory that is empty, too short
+/// by one, exact and long, filled with the same junk for both. Gives what came up, or says where the benches differ.
 pub fn compare(
     one: &dyn Bench,
     other: &dyn Bench,
@@ -37,6 +37,13 @@ pub fn compare(
         let ours = |lent: &mut [u8]| one.translate(bundle, standing, lent);
         let theirs = |lent: &mut [u8]| other.translate(bundle, standing, lent);
         refusals.push(same("translate", junk(length, dice), ours, theirs)?);
+    }
+    for form in [0, 1, 2, no_form(dice)] {
+        for length in lengths(bundle.len(), dice) {
+            let ours = |lent: &mut [u8]| one.translate_to(bundle, standing, form, lent);
+            let theirs = |lent: &mut [u8]| other.translate_to(bundle, standing, form, lent);
+            refusals.push(same(&format!("translate to {form}"), junk(length, dice), ours, theirs)?);
+        }
     }
     let (ours, theirs) = (one.first_step(bundle, standing), other.first_step(bundle, standing));
     if ours != theirs {

@@ -1,7 +1,13 @@
-//! The same three questions by hand, for speed: rules decoded once with their thresholds, sets in words, nothing allocated.
+//! The same questions by hand, for speed: rules decoded once with their thresholds, sets in words, nothing allocated.
 
 use crate::answer::{Answer, Bench, First, Refusal, Step};
+use crate::form::Form;
 use crate::MOST_WORDS;
+
+// The forms as parameters of code that is made for each.
+const MESSAGE: u8 = Form::Message as u8;
+const COUNTING: u8 = Form::Counting as u8;
+const PLAIN: u8 = Form::Plain as u8;
 
 /// The hand-written fast version as one of the benches that are compared.
 pub struct Fast;
@@ -29,23 +35,19 @@ impl Bench for Fast {
             Ok(schedule) => schedule,
             Err(refusal) => return nothing_done(refusal),
         };
-        let out = match out.get_mut(..bundle.len()) {
-            Some(out) => out,
-            None => return nothing_done(refused(30, 0)),
+        schedule.write(bundle, schedule.form.other(), out)
+    }
+
+    fn translate_to(&self, bundle: &[u8], standing: &[u8], form: u64, out: &mut [u8]) -> Answer {
+        let mut rules = [Rule::default(); 64];
+        let schedule = match Schedule::read(bundle, standing, &mut rules) {
+            Ok(schedule) => schedule,
+            Err(refusal) => return nothing_done(refusal),
         };
-        if let Err(refusal) = schedule.run(&mut [0; MOST_WORDS][..schedule.room()]) {
-            return nothing_done(refusal);
+        match Form::of(form) {
+            Some(to) if to != schedule.form => schedule.write(bundle, to, out),
+            _ => nothing_done(refused(31, 0)),
         }
-        out.copy_from_slice(bundle);
-        let (before, trailer) = out.split_at_mut(bundle.len() - 8);
-        let (_, steps) = before.split_at_mut(before.len() - schedule.steps.len());
-        if schedule.counting {
-            schedule.write_senders(steps);
-        } else {
-            schedule.write_tags(steps);
-        }
-        trailer[7] = u8::from(!schedule.counting);
-        Answer { refusal: 0, place: 0, count: bundle.len() as u32 }
     }
 
     fn first_step(&self, bundle: &[u8], standing: &[u8]) -> First {
@@ -53,7 +55,11 @@ impl Bench for Fast {
         let schedule = Schedule::read(bundle, standing, &mut rules)?;
         let words = &mut [0; MOST_WORDS][..schedule.room()];
         schedule.run(words)?;
-        Ok(if schedule.counting { schedule.first::<true>(words) } else { schedule.first::<false>(words) })
+        Ok(match schedule.form {
+            Form::Message => schedule.first::<MESSAGE>(words),
+            Form::Counting => schedule.first::<COUNTING>(words),
+            Form::Plain => schedule.first::<PLAIN>(words),
+        })
     }
 }
 
@@ -153,7 +159,7 @@ struct Schedule<'a> {
     types: usize,
     n: usize,
     f: usize,
-    counting: bool,
+    form: Form,
     starts: &'a [u8],
     steps: &'a [u8],
 }
@@ -167,9 +173,8 @@ impl<'a> Schedule<'a> {
         }
         let (front, schedule) = before.split_at(before.len() - first_start);
         let table = read_table(if front.is_empty() { standing } else { front }, n, t, rules)?;
-        if n.wrapping_sub(1) >= 64 || u32::from(n) <= table.factor * u32::from(t) || f > t || form > 1 {
-            return Err(refused(12, 0));
-        }
+        let admitted = n.wrapping_sub(1) < 64 && u32::from(n) > table.factor * u32::from(t) && f <= t;
+        let form = Form::of(form.into()).filter(|_| admitted).ok_or(refused(12, 0))?;
         let correct = usize::from(n - f);
         if first_step % 4 != 0 || first_step > 16_384 || first_start != first_step + correct {
             return Err(refused(13, 0));
@@ -179,18 +184,17 @@ impl<'a> Schedule<'a> {
             return Err(refused(14, p));
         }
         let rules = &rules[..table.rules];
-        Ok(Schedule { rules, types: table.types, n: n.into(), f: f.into(), counting: form == 1, starts, steps })
+        Ok(Schedule { rules, types: table.types, n: n.into(), f: f.into(), form, starts, steps })
     }
 
     // How many words a board has for what it received.
-    fn row<const COUNTING: bool>(&self) -> usize {
-        self.types << usize::from(COUNTING)
+    fn row<const FORM: u8>(&self) -> usize {
+        self.types << usize::from(FORM == COUNTING)
     }
 
     // How many words the configuration has.
     fn room(&self) -> usize {
-        let row = if self.counting { self.row::<true>() } else { self.row::<false>() };
-        self.starts.len() * (1 + row) + self.types
+        self.starts.len() * (1 + self.types * self.form.wide()) + self.types
     }
 
     // The senders below c.
@@ -210,19 +214,19 @@ impl<'a> Schedule<'a> {
             *state = start.into();
         }
         rest.fill(0);
-        if self.counting {
-            self.take_all::<true>(states, rest)
-        } else {
-            self.take_all::<false>(states, rest)
+        match self.form {
+            Form::Message => self.take_all::<MESSAGE>(states, rest),
+            Form::Counting => self.take_all::<COUNTING>(states, rest),
+            Form::Plain => self.take_all::<PLAIN>(states, rest),
         }
     }
 
-    fn take_all<const COUNTING: bool>(&self, states: &mut [u64], rest: &mut [u64]) -> Result<(), Refusal> {
-        let (cells, sent) = rest.split_at_mut(states.len() * self.row::<COUNTING>());
+    fn take_all<const FORM: u8>(&self, states: &mut [u64], rest: &mut [u64]) -> Result<(), Refusal> {
+        let (cells, sent) = rest.split_at_mut(states.len() * self.row::<FORM>());
         let faulty = self.faulty();
         for (i, record) in self.steps.chunks_exact(4).enumerate() {
             let record = [record[0], record[1], record[2], record[3]];
-            if let Err(number) = self.take::<COUNTING>(states, cells, sent, faulty, record) {
+            if let Err(number) = self.take::<FORM>(states, cells, sent, faulty, record) {
                 return Err(refused(number, i));
             }
         }
@@ -231,7 +235,7 @@ impl<'a> Schedule<'a> {
 
     // One step: the refusals of one record in their order, each where the bound that it names is needed.
     #[inline(always)]
-    fn take<const COUNTING: bool>(
+    fn take<const FORM: u8>(
         &self,
         states: &mut [u64],
         cells: &mut [u64],
@@ -245,39 +249,89 @@ impl<'a> Schedule<'a> {
         if *state != u64::from(rule.from) {
             return Err(22);
         }
-        let row = &mut cells[p * self.row::<COUNTING>()..][..self.row::<COUNTING>()];
+        let row = &mut cells[p * self.row::<FORM>()..][..self.row::<FORM>()];
         let silent = m & q == 255;
         if !silent {
-            let sources = if COUNTING { 2 } else { self.n };
+            let sources = [self.n, 2, 1][usize::from(FORM)];
             if m >= sent.len() || q >= sources {
                 return Err(23);
             }
-            let in_transit = if COUNTING {
-                row[2 * m + q] < if q == 0 { sent[m] } else { self.f as u64 }
-            } else {
-                (sent[m] | faulty) & !row[m] & (1 << q) != 0
+            let in_transit = match FORM {
+                MESSAGE => (sent[m] | faulty) & !row[m] & (1 << q) != 0,
+                COUNTING => row[2 * m + q] < if q == 0 { sent[m] } else { self.f as u64 },
+                _ => row[m] < sent[m] + self.f as u64,
             };
             if !in_transit {
                 return Err(24);
             }
         }
         for (i, &least) in rule.least.iter().enumerate().take(self.types) {
-            if total::<COUNTING>(row, i) + i16::from(i == m) < least {
+            if total::<FORM>(row, i) + i16::from(i == m) < least {
                 return Err(25);
             }
         }
         if !silent {
-            if COUNTING {
-                row[2 * m + q] += 1;
-            } else {
-                row[m] |= 1 << q;
+            match FORM {
+                MESSAGE => row[m] |= 1 << q,
+                COUNTING => row[2 * m + q] += 1,
+                _ => row[m] += 1,
             }
         }
         *state = rule.to.into();
         if let Some(sent) = sent.get_mut(usize::from(rule.sends)) {
-            *sent = if COUNTING { *sent + 1 } else { *sent | 1 << p };
+            *sent = if FORM == MESSAGE { *sent | 1 << p } else { *sent + 1 };
         }
         Ok(())
+    }
+
+    // The bundle in another form, where it runs and there is room.
+    fn write(&self, bundle: &[u8], to: Form, out: &mut [u8]) -> Answer {
+        let out = match out.get_mut(..bundle.len()) {
+            Some(out) => out,
+            None => return nothing_done(refused(30, 0)),
+        };
+        if let Err(refusal) = self.run(&mut [0; MOST_WORDS][..self.room()]) {
+            return nothing_done(refusal);
+        }
+        out.copy_from_slice(bundle);
+        let (before, trailer) = out.split_at_mut(bundle.len() - 8);
+        let (_, steps) = before.split_at_mut(before.len() - self.steps.len());
+        match (self.form, to) {
+            (_, Form::Plain) => Self::write_plain(steps),
+            (Form::Message, _) => self.write_tags(steps),
+            (Form::Counting, _) => self.write_senders(steps),
+            (Form::Plain, _) => self.write_chosen_tags(steps),
+        }
+        if (self.form, to) == (Form::Plain, Form::Message) {
+            self.write_senders(steps);
+        }
+        trailer[7] = to.number();
+        Answer { refusal: 0, place: 0, count: bundle.len() as u32 }
+    }
+
+    // Steps that run in any form, each source made 0.
+    fn write_plain(steps: &mut [u8]) {
+        for record in steps.chunks_exact_mut(4) {
+            if record[2] != 255 {
+                record[3] = 0;
+            }
+        }
+    }
+
+    // Steps that run in plain form, each with the correct tag where that is in transit; only the correct counts are followed.
+    fn write_chosen_tags(&self, steps: &mut [u8]) {
+        let mut got = [[0u8; 4]; 64];
+        let mut sent = [0u8; 4];
+        for record in steps.chunks_exact_mut(4) {
+            if record[2] != 255 {
+                let (p, m) = (usize::from(record[0]), usize::from(record[2]));
+                record[3] = u8::from(got[p][m] == sent[m]);
+                got[p][m] += 1 - record[3];
+            }
+            if let Some(sent) = sent.get_mut(usize::from(self.rules[usize::from(record[1])].sends)) {
+                *sent += 1;
+            }
+        }
     }
 
     // Steps that run in message form, each sender made its tag.
@@ -313,13 +367,13 @@ impl<'a> Schedule<'a> {
     // The first possible step. Where a board lacks nothing for a rule, that is the rule without a message if it leads to
     // another state, and with the first message in transit if not; if there is none, the other rules that stay in that
     // state are passed over. Where something lacks, it is a single message of a single type, and in transit.
-    fn first<const COUNTING: bool>(&self, words: &[u64]) -> Option<Step> {
+    fn first<const FORM: u8>(&self, words: &[u64]) -> Option<Step> {
         let (states, rest) = words.split_at(self.starts.len());
-        let (cells, sent) = rest.split_at(states.len() * self.row::<COUNTING>());
-        for ((p, &state), row) in states.iter().enumerate().zip(cells.chunks_exact(self.row::<COUNTING>())) {
+        let (cells, sent) = rest.split_at(states.len() * self.row::<FORM>());
+        for ((p, &state), row) in states.iter().enumerate().zip(cells.chunks_exact(self.row::<FORM>())) {
             let mut counts = [0i16; 4];
             for (m, count) in counts.iter_mut().enumerate().take(self.types) {
-                *count = total::<COUNTING>(row, m);
+                *count = total::<FORM>(row, m);
             }
             let mut deaf = false;
             for (r, rule) in self.rules.iter().enumerate() {
@@ -342,7 +396,7 @@ impl<'a> Schedule<'a> {
                     _ => continue,
                 };
                 for m in tried {
-                    if let Some(source) = self.lowest::<COUNTING>(row, sent, m) {
+                    if let Some(source) = self.lowest::<FORM>(row, sent, m) {
                         return Some(Step { board: p as u8, rule: r as u8, kind: m as u8, source });
                     }
                 }
@@ -353,23 +407,24 @@ impl<'a> Schedule<'a> {
     }
 
     // The lowest source whose message of type m is in transit to the board of the row.
-    fn lowest<const COUNTING: bool>(&self, row: &[u64], sent: &[u64], m: usize) -> Option<u8> {
-        if !COUNTING {
-            let waiting = (sent[m] | self.faulty()) & !row[m];
-            (waiting != 0).then_some(waiting.trailing_zeros() as u8)
-        } else if row[2 * m] < sent[m] {
-            Some(0)
-        } else {
-            (row[2 * m + 1] < self.f as u64).then_some(1)
+    fn lowest<const FORM: u8>(&self, row: &[u64], sent: &[u64], m: usize) -> Option<u8> {
+        match FORM {
+            MESSAGE => {
+                let waiting = (sent[m] | self.faulty()) & !row[m];
+                (waiting != 0).then_some(waiting.trailing_zeros() as u8)
+            }
+            COUNTING if row[2 * m] < sent[m] => Some(0),
+            COUNTING => (row[2 * m + 1] < self.f as u64).then_some(1),
+            _ => (row[m] < sent[m] + self.f as u64).then_some(0),
         }
     }
 }
 
-// How many messages of type m a board has: the ones of a set, or two counts.
-fn total<const COUNTING: bool>(row: &[u64], m: usize) -> i16 {
-    if COUNTING {
-        (row[2 * m] + row[2 * m + 1]) as i16
-    } else {
-        row[m].count_ones() as i16
+// How many messages of type m a board has: the ones of a set, two counts, or one.
+fn total<const FORM: u8>(row: &[u64], m: usize) -> i16 {
+    match FORM {
+        MESSAGE => row[m].count_ones() as i16,
+        COUNTING => (row[2 * m] + row[2 * m + 1]) as i16,
+        _ => row[m] as i16,
     }
 }

@@ -19,6 +19,15 @@ mod capi {
             out: *mut u8,
             out_length: usize,
         ) -> u64;
+        pub fn macaroosh_translate_to(
+            bundle: *const u8,
+            bundle_length: usize,
+            standing: *const u8,
+            standing_length: usize,
+            form: u64,
+            out: *mut u8,
+            out_length: usize,
+        ) -> u64;
         pub fn macaroosh_first_step(
             bundle: *const u8,
             bundle_length: usize,
@@ -54,6 +63,22 @@ pub fn translate(bundle: &[u8], standing: &[u8], out: &mut [u8]) -> u64 {
             bundle.len(),
             standing.as_ptr(),
             standing.len(),
+            out.as_mut_ptr(),
+            out.len(),
+        )
+    }
+}
+
+/// The packed answer of a translation to the form of a number.
+pub fn translate_to(bundle: &[u8], standing: &[u8], form: u64, out: &mut [u8]) -> u64 {
+    // SAFETY: as above.
+    unsafe {
+        capi::macaroosh_translate_to(
+            bundle.as_ptr(),
+            bundle.len(),
+            standing.as_ptr(),
+            standing.len(),
+            form,
             out.as_mut_ptr(),
             out.len(),
         )

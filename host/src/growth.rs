@@ -1,8 +1,9 @@
 //! What one step costs, whatever the number of boards: pairs of bundles that differ by their last step only, and the words
 //! that a step writes. The model has accepted every step.
 
-use crate::answer::{Bench, Step};
-use crate::bundles::{closed, little_endian};
+use crate::answer::Step;
+use crate::bundles::{closed, in_form, little_endian};
+use crate::form::Form;
 use crate::model::{read, Bundle, Model, Outline};
 use crate::ECHO;
 
@@ -14,8 +15,8 @@ pub const KINDS: [&str; 4] = ["wait", "receipt", "send", "both"];
 
 /// Two bundles that differ by a last step.
 pub struct Pair {
-    /// Whether they are in counting form.
-    pub counting: bool,
+    /// Their form.
+    pub form: Form,
     /// How many types of message there are: 1 or 4.
     pub types: usize,
     /// The last step's kind, of `KINDS`.
@@ -33,10 +34,10 @@ pub struct Pair {
 /// All pairs: for each form, number of types and kind, one for each number of boards in turn.
 pub fn growth() -> Vec<Pair> {
     let mut pairs = Vec::new();
-    for counting in [false, true] {
+    for form in Form::ALL {
         for types in [1, 4] {
             for kind in KINDS {
-                pairs.extend(BOARDS.map(|correct| pair(counting, types, kind, correct)));
+                pairs.extend(BOARDS.map(|correct| pair(form, types, kind, correct)));
             }
         }
     }
@@ -48,11 +49,11 @@ pub fn growth() -> Vec<Pair> {
 pub fn places(bundle: &Bundle, step: Step) -> Vec<usize> {
     let (p, m, q) = (usize::from(step.board), usize::from(step.kind), usize::from(step.source));
     let (correct, types) = (bundle.correct(), bundle.table.types);
-    let wide = if bundle.counting { 2 } else { 1 };
+    let wide = bundle.form.wide();
     let rule = &bundle.table.rules[usize::from(step.rule)];
     let mut places = if rule.from == rule.to { Vec::new() } else { vec![p] };
     if !step.silent() {
-        places.push(correct + wide * (types * p + m) + if bundle.counting { q } else { 0 });
+        places.push(correct + wide * (types * p + m) + if bundle.form == Form::Counting { q } else { 0 });
     }
     if let Some(sent) = bundle.sends(rule) {
         places.push(correct + wide * types * correct + sent);
@@ -63,7 +64,7 @@ pub fn places(bundle: &Bundle, step: Step) -> Vec<usize> {
 // The last board has waited once, since the first step of a run takes what the others share; and it has heard all the others'
 // messages of type 0, but for one where the last step needs it. What it hears in its last step is its own message, if it has
 // sent that; or else another's; or, where it is alone, that of a faulty board.
-fn pair(counting: bool, types: usize, kind: &'static str, correct: usize) -> Pair {
+fn pair(form: Form, types: usize, kind: &'static str, correct: usize) -> Pair {
     let last = correct as u8 - 1;
     let quiet = |board, rule| Step { board, rule, kind: 255, source: 255 };
     // With one type, sending it is the step that is measured, but for the receipt of one's own.
@@ -94,24 +95,15 @@ fn pair(counting: bool, types: usize, kind: &'static str, correct: usize) -> Pai
     let faulty = u8::from(alone);
     let numbers = [correct as u8 + faulty, faulty, faulty, 0];
     let before = [table(types), vec![0; correct]].concat();
-    let bundles = [&steps[..steps.len() - 1], &steps].map(|steps| {
-        let message = closed(&before, steps, correct, numbers);
-        let mut other = vec![0; message.len()];
-        let answer = Model.translate(&message, &ECHO, &mut other);
-        assert_eq!(answer.refusal, 0, "{kind} of {correct} boards with {types} types: {answer:?}");
-        if counting {
-            other
-        } else {
-            message
-        }
-    });
+    let bundles = [&steps[..steps.len() - 1], &steps]
+        .map(|steps| in_form(&Model, &closed(&before, steps, correct, numbers), form));
     let whole = read(&bundles[1], &ECHO).expect("a bundle");
     let (_, refusal) = Model.run_steps(&whole);
     assert_eq!(refusal, None, "{kind} of {correct} boards with {types} types");
     let mut of_steps: Vec<Vec<usize>> = whole.steps.iter().map(|&step| places(&whole, step)).collect();
     let places = of_steps.pop().expect("a step");
     let stores = whole.start().words().len() + of_steps.concat().len();
-    Pair { counting, types, kind, correct, bundles, places, stores }
+    Pair { form, types, kind, correct, bundles, places, stores }
 }
 
 // The rules by number: a board that has sent nothing stays or sends type 0; one that has stays, or sends the last of several.

@@ -2,7 +2,7 @@
 //! hand-written fast version that their speed is measured against.
 //!
 //! ```
-//! use macaroosh::{draw, first_step, run, undraw, ECHO, MOST_DRAWING, MOST_TABLE, MOST_WORDS};
+//! use macaroosh::{draw, first_step, run, translate_to, undraw, ECHO, MOST_DRAWING, MOST_TABLE, MOST_WORDS};
 //!
 //! // Schedule W of the outline: three correct boards and a faulty one, read beside the echo table.
 //! let w = [
@@ -14,6 +14,12 @@
 //! assert_eq!(words[..7], [2, 2, 3, 0, 0, 0b1011, 0b111]);
 //! let step = first_step(&w, &ECHO).expect("no refusal").expect("a step");
 //! assert_eq!(step.record(), [0, 4, 0, 0]);
+//!
+//! // W in plain form, number 2: as many messages, and no word of who sent them.
+//! let mut plain = [0; 31];
+//! assert_eq!(translate_to(&w, &ECHO, 2, &mut plain).count, 31);
+//! run(&plain, &ECHO, &mut words);
+//! assert_eq!(words[..7], [2, 2, 3, 0, 0, 3, 3]);
 //!
 //! // The echo table as a drawing, and back.
 //! let (mut text, mut table) = ([0; MOST_DRAWING], [0; MOST_TABLE]);
@@ -32,6 +38,7 @@ pub mod compare;
 pub mod drawings;
 pub mod fast;
 mod ffi;
+pub mod form;
 pub mod growth;
 pub mod model;
 pub mod parts;
@@ -39,6 +46,7 @@ pub mod refusals;
 pub mod sketches;
 
 pub use answer::{Answer, Bench, Draws, First, Refusal, Step};
+pub use form::Form;
 
 /// The echo table of the outline: the report program's standing table.
 pub const ECHO: [u8; 51] = [
@@ -65,9 +73,16 @@ pub fn run(bundle: &[u8], standing: &[u8], words: &mut [u64]) -> Answer {
     unpacked(ffi::run(bundle, standing, words))
 }
 
-/// Writes the bundle in the other form; as many bytes as the bundle has are enough.
+/// Writes the bundle in the other form, message and plain to counting and counting to message; as many bytes as the bundle
+/// has are enough.
 pub fn translate(bundle: &[u8], standing: &[u8], out: &mut [u8]) -> Answer {
     unpacked(ffi::translate(bundle, standing, out))
+}
+
+/// Writes the bundle in the form of that number, 0 message, 1 counting, 2 plain; as many bytes as the bundle has are enough.
+/// Its own form and any other number are refused.
+pub fn translate_to(bundle: &[u8], standing: &[u8], form: u64, out: &mut [u8]) -> Answer {
+    unpacked(ffi::translate_to(bundle, standing, form, out))
 }
 
 /// The first possible step after the whole schedule, or none where no step but waits is accepted. A wait has no message, and
@@ -106,6 +121,10 @@ impl Bench for Library {
 
     fn translate(&self, bundle: &[u8], standing: &[u8], out: &mut [u8]) -> Answer {
         translate(bundle, standing, out)
+    }
+
+    fn translate_to(&self, bundle: &[u8], standing: &[u8], form: u64, out: &mut [u8]) -> Answer {
+        translate_to(bundle, standing, form, out)
     }
 
     fn first_step(&self, bundle: &[u8], standing: &[u8]) -> First {

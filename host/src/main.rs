@@ -23,8 +23,8 @@ Macaroosh runs a schedule of steps against a threshold table.
                              counts after it
   macaroosh first FILE       name the first step that is possible after it, or
                              say that the run is quiet: nothing but waits
-  macaroosh translate FILE   write the bundle in the other form, message or
-                             counting
+  macaroosh translate FILE   write the bundle in the other form: counting, or
+                             message if it is in counting form
   macaroosh draw TABLE       write the table as a drawing, in Graphviz's DOT
                              language
   macaroosh undraw DRAWING   write the table of a drawing, also of an edited
@@ -34,6 +34,7 @@ FILE is a bundle: a table, then a schedule. A bundle without a table is read
 beside the standing table. TABLE is a table alone, without a schedule. For
 each of the three '-' is standard input.
 
+  --to FORM         the form to translate to: message, counting or plain
   --standing FILE   the standing table; without this option the echo table
   --svg, --png      draw an image of the table; needs Graphviz's program dot
   -o FILE           write the output there; a file of that name stays as it
@@ -80,7 +81,7 @@ fn reply(request: &Request) -> Result<Reply, String> {
     };
     match request.command {
         Command::Run => ask(&replies::run),
-        Command::Translate => ask(&|question| replies::translate(question, path)),
+        Command::Translate(to) => ask(&|question| replies::translate(question, to, path)),
         Command::First => ask(&replies::first),
         Command::Trace => ask(&trace::reply),
         Command::Draw(image) => draw::draw(&table(&request.input)?, image, path, request.plain),

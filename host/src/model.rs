@@ -1,8 +1,10 @@
 //! The outline, read aloud: bundles are vectors, sets are sets, and nothing is clever. It calls nothing that it judges.
 
 use crate::answer::{Answer, Bench, First, Refusal, Step};
+use crate::form::Form;
 use crate::{ECHO, MOST_BYTES};
 use std::collections::BTreeSet;
+use std::ops::Range;
 
 /// A state record: flags and the mask of types sent.
 #[derive(Clone, Debug)]
@@ -50,8 +52,8 @@ pub struct Bundle {
     pub t: usize,
     /// The faulty boards.
     pub f: usize,
-    /// Whether it is in counting form.
-    pub counting: bool,
+    /// The form of its schedule.
+    pub form: Form,
     /// The start states of the n-f correct boards.
     pub starts: Vec<usize>,
     /// The schedule.
@@ -131,10 +133,8 @@ pub fn read(bundle: &[u8], standing: &[u8]) -> Result<Bundle, Refusal> {
     let (front, schedule) = bundle.split_at(bundle.len() - first_start - 8);
     let table = read_table(if front.is_empty() { standing } else { front })?;
     let [n, t, f] = [4, 5, 6].map(|i| usize::from(trailer[i]));
-    let form = trailer[7];
-    if !(1..=64).contains(&n) || n <= table.factor as usize * t || f > t || form > 1 {
-        return Err(refused(12, 0));
-    }
+    let admitted = (1..=64).contains(&n) && n > table.factor as usize * t && f <= t;
+    let form = Form::of(u64::from(trailer[7])).filter(|_| admitted).ok_or(refused(12, 0))?;
     if first_step % 4 != 0 || first_step > 16_384 || first_start != first_step + (n - f) {
         return Err(refused(13, 0));
     }
@@ -146,7 +146,7 @@ pub fn read(bundle: &[u8], standing: &[u8]) -> Result<Bundle, Refusal> {
         }
     }
     let steps = rest[..first_step].chunks(4).map(|s| Step::of([s[0], s[1], s[2], s[3]])).collect();
-    Ok(Bundle { table, n, t, f, counting: form == 1, starts, steps })
+    Ok(Bundle { table, n, t, f, form, starts, steps })
 }
 
 /// What a board has received of one type, or what was sent of it: who, or how many.
@@ -156,6 +156,8 @@ pub enum Messages {
     Set(BTreeSet<usize>),
     /// Correct and faulty counts.
     Counts(usize, usize),
+    /// One count of both.
+    Count(usize),
 }
 
 impl Messages {
@@ -163,17 +165,19 @@ impl Messages {
         match self {
             Messages::Set(set) => set.len(),
             Messages::Counts(correct, faulty) => correct + faulty,
+            Messages::Count(count) => *count,
         }
     }
 
-    /// Correct and faulty counts, where the senders below `correct` are the correct ones.
-    pub fn counts(&self, correct: usize) -> (usize, usize) {
+    // As the report has them: correct and faulty counts, where the senders below `correct` are the correct ones; or one count.
+    fn counts(&self, correct: usize) -> Vec<usize> {
         match self {
             Messages::Set(set) => {
                 let of_correct = set.iter().filter(|&&q| q < correct).count();
-                (of_correct, set.len() - of_correct)
+                vec![of_correct, set.len() - of_correct]
             }
-            Messages::Counts(c, f) => (*c, *f),
+            Messages::Counts(correct, faulty) => vec![*correct, *faulty],
+            Messages::Count(count) => vec![*count],
         }
     }
 
@@ -183,6 +187,7 @@ impl Messages {
                 set.insert(source);
             }
             Messages::Counts(correct, faulty) => *(if source == 0 { correct } else { faulty }) += 1,
+            Messages::Count(count) => *count += 1,
         }
     }
 }
@@ -206,12 +211,13 @@ impl Configuration {
             match received {
                 Messages::Set(set) => words.push(bits(set)),
                 Messages::Counts(correct, faulty) => words.extend([*correct as u64, *faulty as u64]),
+                Messages::Count(count) => words.push(*count as u64),
             }
         }
         for sent in &self.sent {
             words.push(match sent {
                 Messages::Set(set) => bits(set),
-                Messages::Counts(count, _) => *count as u64,
+                Messages::Counts(count, _) | Messages::Count(count) => *count as u64,
             });
         }
         words
@@ -229,18 +235,22 @@ impl Bundle {
         self.n - self.f
     }
 
-    /// How many sources its form has: senders, or tags.
+    /// How many sources its form has: senders, tags, or one.
     pub fn sources(&self) -> usize {
-        if self.counting {
-            2
-        } else {
-            self.n
+        match self.form {
+            Form::Message => self.n,
+            Form::Counting => 2,
+            Form::Plain => 1,
         }
     }
 
     /// Nothing received and nothing sent.
     pub fn start(&self) -> Configuration {
-        let nothing = if self.counting { Messages::Counts(0, 0) } else { Messages::Set(BTreeSet::new()) };
+        let nothing = match self.form {
+            Form::Message => Messages::Set(BTreeSet::new()),
+            Form::Counting => Messages::Counts(0, 0),
+            Form::Plain => Messages::Count(0),
+        };
         Configuration {
             states: self.starts.clone(),
             received: vec![vec![nothing.clone(); self.table.types]; self.correct()],
@@ -269,7 +279,7 @@ impl Bundle {
         let rule = &self.table.rules[usize::from(step.rule)];
         configuration.states[p] = rule.to;
         if let Some(m) = self.sends(rule) {
-            configuration.sent[m].add(if self.counting { 0 } else { p });
+            configuration.sent[m].add(if self.form == Form::Message { p } else { 0 });
         }
     }
 }
@@ -290,6 +300,7 @@ pub trait Outline {
             }
             (Messages::Counts(correct, _), Messages::Counts(out, _)) if q == 0 => correct < out,
             (Messages::Counts(_, faulty), _) => *faulty < bundle.f,
+            (Messages::Count(got), Messages::Count(out)) => *got < out + bundle.f,
             _ => unreachable!("one form at a time"),
         }
     }
@@ -337,32 +348,53 @@ pub trait Outline {
         (configuration, None)
     }
 
-    /// An accepted step in the other form, where the steps before it have reached this configuration of message form.
-    fn translated(&self, bundle: &Bundle, messages: &Configuration, step: Step) -> Step {
-        if step.silent() {
-            return step;
+    /// An accepted step of a form in the form next to it, where the steps before it have reached this configuration there.
+    fn translated(&self, from: Form, other: &Bundle, reached: &Configuration, step: Step) -> Step {
+        let correct = other.correct();
+        let in_transit = |sources: Range<usize>| {
+            let mut chosen = sources.map(|source| Step { source: source as u8, ..step });
+            chosen.find(|&chosen| self.in_transit(other, reached, chosen)).expect("a source in transit")
+        };
+        match (from, other.form) {
+            _ if step.silent() => step,
+            (_, Form::Plain) => Step { source: 0, ..step },
+            (Form::Plain, _) => in_transit(0..2),
+            (Form::Message, _) => Step { source: u8::from(usize::from(step.source) >= correct), ..step },
+            (Form::Counting, _) => in_transit(if step.source == 0 { 0..correct } else { correct..other.n }),
         }
-        if !bundle.counting {
-            return Step { source: u8::from(usize::from(step.source) >= bundle.correct()), ..step };
-        }
-        let class = if step.source == 0 { 0..bundle.correct() } else { bundle.correct()..bundle.n };
-        class
-            .map(|q| Step { source: q as u8, ..step })
-            .find(|&chosen| self.in_transit(bundle, messages, chosen))
-            .expect("a sender of that class")
     }
 
-    /// A schedule that runs, in the other form.
-    fn translation(&self, bundle: &Bundle) -> Vec<Step> {
-        let message_form = Bundle { counting: false, ..bundle.clone() };
-        let mut messages = message_form.start();
+    /// A schedule that runs, in another form; between message and plain form by way of the counting form.
+    fn translation(&self, bundle: &Bundle, to: Form) -> Vec<Step> {
+        if bundle.form != Form::Counting && to != Form::Counting {
+            let steps = self.translation(bundle, Form::Counting);
+            return self.translation(&Bundle { form: Form::Counting, steps, ..bundle.clone() }, to);
+        }
+        let other = Bundle { form: to, ..bundle.clone() };
+        let mut reached = other.start();
         let mut steps = Vec::new();
         for &step in &bundle.steps {
-            let other = self.translated(bundle, &messages, step);
-            message_form.apply(&mut messages, if bundle.counting { other } else { step });
-            steps.push(other);
+            let step = self.translated(bundle.form, &other, &reached, step);
+            other.apply(&mut reached, step);
+            steps.push(step);
         }
         steps
+    }
+
+    /// Writes a bundle that was read in another form.
+    fn write(&self, bytes: &[u8], bundle: &Bundle, to: Form, out: &mut [u8]) -> Answer {
+        if out.len() < bytes.len() {
+            return nothing_done(refused(30, 0));
+        }
+        if let (_, Some(refusal)) = self.run_steps(bundle) {
+            return nothing_done(refusal);
+        }
+        let mut other = bytes[..bytes.len() - 8 - 4 * bundle.steps.len()].to_vec();
+        other.extend(self.translation(bundle, to).iter().flat_map(|step| step.record()));
+        other.extend(&bytes[bytes.len() - 8..bytes.len() - 1]);
+        other.push(to.number());
+        out[..other.len()].copy_from_slice(&other);
+        Answer { refusal: 0, place: 0, count: other.len() as u32 }
     }
 
     /// Whether a step is possible there: accepted, and not a wait.
@@ -413,22 +445,21 @@ impl<O: Outline> Bench for O {
     }
 
     fn translate(&self, bytes: &[u8], standing: &[u8], out: &mut [u8]) -> Answer {
+        match read(bytes, standing) {
+            Ok(bundle) => self.write(bytes, &bundle, bundle.form.other(), out),
+            Err(refusal) => nothing_done(refusal),
+        }
+    }
+
+    fn translate_to(&self, bytes: &[u8], standing: &[u8], form: u64, out: &mut [u8]) -> Answer {
         let bundle = match read(bytes, standing) {
             Ok(bundle) => bundle,
             Err(refusal) => return nothing_done(refusal),
         };
-        if out.len() < bytes.len() {
-            return nothing_done(refused(30, 0));
+        match Form::of(form) {
+            Some(to) if to != bundle.form => self.write(bytes, &bundle, to, out),
+            _ => nothing_done(refused(31, 0)),
         }
-        if let (_, Some(refusal)) = self.run_steps(&bundle) {
-            return nothing_done(refusal);
-        }
-        let mut other = bytes[..bytes.len() - 8 - 4 * bundle.steps.len()].to_vec();
-        other.extend(self.translation(&bundle).iter().flat_map(|step| step.record()));
-        other.extend(&bytes[bytes.len() - 8..bytes.len() - 1]);
-        other.push(u8::from(!bundle.counting));
-        out[..other.len()].copy_from_slice(&other);
-        Answer { refusal: 0, place: 0, count: other.len() as u32 }
     }
 
     fn first_step(&self, bytes: &[u8], standing: &[u8]) -> First {
@@ -461,9 +492,8 @@ pub fn report(bytes: &[u8]) -> String {
     };
     for (p, (state, received)) in left.states.iter().zip(&left.received).enumerate() {
         lines += &format!("p {p} {state}");
-        for messages in received {
-            let (of_correct, of_faulty) = messages.counts(bundle.correct());
-            lines += &format!(" {of_correct} {of_faulty}");
+        for count in received.iter().flat_map(|messages| messages.counts(bundle.correct())) {
+            lines += &format!(" {count}");
         }
         lines += "\n";
     }

@@ -1,6 +1,7 @@
 //! The parts of a bundle that the library has read, for showing: what its bytes and its words say.
 
 use crate::answer::Step;
+use crate::form::Form;
 
 /// A bundle by its parts.
 #[derive(Debug)]
@@ -11,8 +12,8 @@ pub struct Parts<'a> {
     pub t: usize,
     /// The faulty boards.
     pub f: usize,
-    /// Whether it is in counting form.
-    pub counting: bool,
+    /// The form of its schedule.
+    pub form: Form,
     /// How many types of message the table in use has.
     pub types: usize,
     /// The start state of each correct board.
@@ -24,15 +25,23 @@ pub struct Parts<'a> {
     numbers: &'a [u8],
 }
 
-/// What a configuration comes to in either form.
+/// What a configuration comes to in any form.
 #[derive(Clone, Debug, PartialEq, Eq)]
 pub struct Picture {
     /// By board.
     pub states: Vec<u64>,
-    /// By board and type: the correct and the faulty count.
-    pub received: Vec<Vec<(u32, u32)>>,
+    /// By board and type: the correct and the faulty count, or in plain form the one count.
+    pub received: Vec<Vec<Vec<u32>>>,
     /// By type: how many boards have sent it.
     pub sent: Vec<u32>,
+}
+
+impl Picture {
+    /// The same with one count in place of two.
+    pub fn summed(&self) -> Picture {
+        let sums = |board: &Vec<Vec<u32>>| board.iter().map(|counts| vec![counts.iter().sum()]).collect();
+        Picture { received: self.received.iter().map(sums).collect(), ..self.clone() }
+    }
 }
 
 impl<'a> Parts<'a> {
@@ -47,8 +56,8 @@ impl<'a> Parts<'a> {
         let types = usize::from(table[6]);
         let fits = f < n && n <= 64 && starts.len() == n - f && (1..=4).contains(&types);
         let numbers = &trailer[4..];
-        let counting = trailer[7] == 1;
-        fits.then_some(Parts { n, t, f, counting, types, starts, front, states, rules, steps, numbers })
+        let form = Form::of(u64::from(trailer[7]))?;
+        fits.then_some(Parts { n, t, f, form, types, starts, front, states, rules, steps, numbers })
     }
 
     /// How many boards are correct.
@@ -58,8 +67,7 @@ impl<'a> Parts<'a> {
 
     /// How many words a run needs.
     pub fn words(&self) -> usize {
-        let wide = if self.counting { 2 } else { 1 };
-        self.correct() + self.correct() * self.types * wide + self.types
+        self.correct() + self.correct() * self.types * self.form.wide() + self.types
     }
 
     /// How many steps the schedule has.
@@ -102,21 +110,20 @@ impl<'a> Parts<'a> {
         let word = |i: usize| words.get(i).copied().unwrap_or(0);
         let (correct, types) = (self.correct(), self.types);
         let below = u64::MAX >> (64 - correct);
-        let split = |set: u64| ((set & below).count_ones(), (set & !below).count_ones());
+        let split = |set: u64| vec![(set & below).count_ones(), (set & !below).count_ones()];
         let received = |p: usize, m: usize| {
-            let cell = p * types + m;
-            if self.counting {
-                (word(correct + 2 * cell) as u32, word(correct + 2 * cell + 1) as u32)
-            } else {
-                split(word(correct + cell))
+            let wide = self.form.wide();
+            let cell = correct + wide * (p * types + m);
+            match self.form {
+                Form::Message => split(word(cell)),
+                Form::Counting | Form::Plain => (cell..cell + wide).map(|i| word(i) as u32).collect(),
             }
         };
         let sent = |m: usize| {
             let last = word(self.words() - types + m);
-            if self.counting {
-                last as u32
-            } else {
-                last.count_ones()
+            match self.form {
+                Form::Message => last.count_ones(),
+                Form::Counting | Form::Plain => last as u32,
             }
         };
         Picture {

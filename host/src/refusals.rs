@@ -35,7 +35,7 @@ const fn line(number: u8, place: Place, when: &'static str) -> Line {
 }
 
 /// Every refusal, in the order of the checks.
-pub const ALL: [Line; 23] = [
+pub const ALL: [Line; 24] = [
     line(40, Place::None, "the input is over 17,392 bytes (report program only)"),
     line(10, Place::None, "the bundle is under 8 bytes"),
     line(11, Place::None, "the schedule's second distance plus 8 exceeds the bundle"),
@@ -56,13 +56,14 @@ pub const ALL: [Line; 23] = [
     line(6, Place::Rule, "the rule's from or to is no state"),
     line(7, Place::Rule, "the rule forgets a sent type"),
     line(8, Place::Rule, "the rule sends two new types"),
-    line(12, Place::None, "n, t, f are not admitted (n in 1 to 64, n > k·t, f ≤ t), or the form is over 1"),
+    line(12, Place::None, "n, t, f are not admitted (n in 1 to 64, n > k·t, f ≤ t), or the form is over 2"),
     line(
         13,
         Place::None,
         "the step distance is no multiple of 4 or over 16,384, or the second distance is not that plus n - f",
     ),
     line(14, Place::Board, "the board's start is not an initial state"),
+    line(31, Place::None, "the form asked for is the bundle's own, or there is no such form"),
     line(30, Place::None, "the lent output is shorter than what is needed"),
     line(61, Place::None, "the lent output is shorter than the drawing or its table"),
     line(20, Place::Step, "the board is not below n - f"),

@@ -3,7 +3,7 @@
 use crate::show;
 use macaroosh::parts::Parts;
 use macaroosh::refusals::{self, Place};
-use macaroosh::{Refusal, Step, MOST_WORDS};
+use macaroosh::{Form, Refusal, Step, MOST_WORDS};
 use std::path::Path;
 
 /// A bundle and the table beside it.
@@ -65,16 +65,20 @@ pub fn run(question: &Question) -> Reply {
     question.reply(output, answer.refused())
 }
 
-/// The bytes in the other form, which go to `path`, and what was written.
-pub fn translate(question: &Question, path: Option<&Path>) -> Reply {
-    let mut output = vec![0; question.bundle.len()];
-    let answer = macaroosh::translate(question.bundle, question.standing, &mut output);
+/// The bytes in the form asked for, or else in the other form, which go to `path`, and what was written.
+pub fn translate(question: &Question, to: Option<Form>, path: Option<&Path>) -> Reply {
+    let Question { bundle, standing, .. } = *question;
+    let mut output = vec![0; bundle.len()];
+    let answer = match to {
+        Some(form) => macaroosh::translate_to(bundle, standing, u64::from(form.number()), &mut output),
+        None => macaroosh::translate(bundle, standing, &mut output),
+    };
     output.truncate(answer.count as usize);
     let told = match answer.refused() {
         _ if question.plain => show::result(answer),
         Some(refusal) => question.told(refusal),
         None => {
-            let form = if output.last() == Some(&1) { "counting" } else { "message" };
+            let form = output.last().and_then(|&number| Form::of(u64::from(number))).map_or("unknown", Form::name);
             format!("wrote {} in {form} form{}\n", show::counted(output.len(), "byte"), show::to(path))
         }
     };

@@ -1,7 +1,7 @@
 //! Answers as people read them, and as programs do.
 
 use macaroosh::parts::{Parts, Picture};
-use macaroosh::{Answer, First, Refusal, Step};
+use macaroosh::{Answer, First, Form, Refusal, Step};
 use std::path::Path;
 
 /// The report program's first line.
@@ -17,7 +17,7 @@ pub fn lines(picture: &Picture) -> String {
 
 /// The report's line of one board.
 pub fn board_line(picture: &Picture, p: usize) -> String {
-    let counts: String = picture.received[p].iter().map(|(correct, faulty)| format!(" {correct} {faulty}")).collect();
+    let counts: String = picture.received[p].iter().flatten().map(|count| format!(" {count}")).collect();
     format!("p {p} {}{counts}\n", picture.states[p])
 }
 
@@ -44,10 +44,12 @@ pub fn first(parts: &Parts, step: Option<Step>) -> String {
         Some(step) => {
             let (from, to) = parts.ends(step.rule).unwrap_or((0, 0));
             let [board, rule, kind, source] = step.record();
-            let message = match source {
-                _ if step.silent() || !parts.counting => message(parts, step),
-                0 => format!("type {kind} from a correct board"),
-                _ => format!("type {kind} from a faulty board"),
+            let message = match (parts.form, source) {
+                _ if step.silent() => message(parts, step),
+                (Form::Message, _) => message(parts, step),
+                (Form::Counting, 0) => format!("type {kind} from a correct board"),
+                (Form::Counting, _) => format!("type {kind} from a faulty board"),
+                (Form::Plain, _) => format!("a message of type {kind}"),
             };
             format!(
                 "after {after} the first possible step is: board {board}, rule {rule} ({from} -> {to}), {message}\n\
@@ -71,7 +73,7 @@ pub fn message(parts: &Parts, step: Step) -> String {
 
 /// The form and the boards of a bundle in one line.
 pub fn setting(parts: &Parts) -> String {
-    let form = if parts.counting { "counting" } else { "message" };
+    let form = parts.form.name();
     let correct = parts.correct();
     let boards = match (correct, parts.f) {
         (1, 0) => "board 0 is correct".to_string(),
@@ -91,7 +93,7 @@ pub fn configuration(parts: &Parts, picture: &Picture, steps: u32) -> String {
     let mut rows = vec![head];
     for (p, &in_state) in picture.states.iter().enumerate() {
         let mut row = vec![p.to_string(), state(parts, in_state)];
-        row.extend(picture.received[p].iter().map(|&counts| sum(counts)));
+        row.extend(picture.received[p].iter().map(|counts| sum(counts)));
         rows.push(row);
     }
     let mut sent = vec!["sent".to_string(), String::new()];
@@ -99,8 +101,9 @@ pub fn configuration(parts: &Parts, picture: &Picture, steps: u32) -> String {
     rows.push(sent);
     let after = counted(steps as usize, "step");
     format!(
-        "{}\nafter {after}: what each board has (from correct + faulty boards), and what was sent\n\n{}",
+        "{}\nafter {after}: what each board has ({}), and what was sent\n\n{}",
         setting(parts),
+        counts_of(parts),
         aligned(&rows, &[1])
     )
 }
@@ -110,9 +113,17 @@ pub fn state(parts: &Parts, number: u64) -> String {
     format!("{number}{}", if parts.accepting(number) { " accepting" } else { "" })
 }
 
+/// Whose messages `sum` counts.
+pub fn counts_of(parts: &Parts) -> &'static str {
+    match parts.form {
+        Form::Message | Form::Counting => "from correct + faulty boards",
+        Form::Plain => "from correct and faulty boards together",
+    }
+}
+
 /// A board's counts of one type.
-pub fn sum((correct, faulty): (u32, u32)) -> String {
-    format!("{correct}+{faulty}")
+pub fn sum(counts: &[u32]) -> String {
+    counts.iter().map(u32::to_string).collect::<Vec<String>>().join("+")
 }
 
 /// Where an output went, if it is a file.

@@ -1,10 +1,10 @@
-//! Each step of a schedule, by the library alone: the bundle with its first i steps is run for each i, and the other
-//! form's sources come from its translation.
+//! Each step of a schedule, by the library alone: the bundle with its first i steps is run for each i, and the senders of a
+//! counting or plain schedule come from its translation to message form, the tags of a message schedule from that to counting.
 
 use crate::replies::{Question, Reply};
 use crate::show;
 use macaroosh::parts::{Parts, Picture};
-use macaroosh::{run, translate, Step, MOST_WORDS};
+use macaroosh::{run, translate_to, Form, Step, MOST_WORDS};
 
 /// The trace of a bundle, up to a step that is refused.
 pub fn reply(question: &Question) -> Reply {
@@ -22,7 +22,7 @@ pub fn reply(question: &Question) -> Reply {
 /// An accepted step.
 struct Move {
     step: Step,
-    /// The same step in the other form.
+    /// The same step translated.
     other: Step,
     /// What the configuration comes to after it.
     after: Picture,
@@ -31,7 +31,8 @@ struct Move {
 fn moves(parts: &Parts, standing: &[u8], accepted: usize) -> Vec<Move> {
     let accepted_part = parts.first(accepted);
     let mut translated = vec![0; accepted_part.len()];
-    translate(&accepted_part, standing, &mut translated);
+    let to = if parts.form == Form::Message { Form::Counting } else { Form::Message };
+    translate_to(&accepted_part, standing, u64::from(to.number()), &mut translated);
     let others: Vec<Step> = Parts::of(&translated, standing).map_or(Vec::new(), |other| other.steps().collect());
     let mut words = [0; MOST_WORDS];
     let mut after = |steps: usize| {
@@ -49,7 +50,7 @@ fn table(parts: &Parts, moves: &[Move]) -> String {
         return text;
     }
     let mut head = vec!["step", "board", "rule", "from -> to", "receives", "sends"];
-    if parts.counting {
+    if parts.form == Form::Counting {
         head.insert(5, "tag");
     }
     let left: Vec<usize> = (3..head.len()).collect();
@@ -59,8 +60,9 @@ fn table(parts: &Parts, moves: &[Move]) -> String {
     }
     let rows = moves.iter().enumerate().map(|(i, m)| row(parts, i, m));
     let rows: Vec<Vec<String>> = std::iter::once(head).chain(rows).collect();
-    let chosen = if parts.counting { "senders are those that the translation chooses\n" } else { "" };
-    text + &format!("after each step: what its board has (from correct + faulty boards), and what was sent\n{chosen}\n")
+    let chosen = if parts.form == Form::Message { "" } else { "senders are those that the translation chooses\n" };
+    let counts = show::counts_of(parts);
+    text + &format!("after each step: what its board has ({counts}), and what was sent\n{chosen}\n")
         + &show::aligned(&rows, &left)
 }
 
@@ -69,8 +71,8 @@ fn row(parts: &Parts, i: usize, m: &Move) -> Vec<String> {
     let (from, to) = parts.ends(rule).unwrap_or((0, 0));
     let mut cells = vec![i.to_string(), board.to_string(), rule.to_string()];
     cells.push(format!("{from:>4} -> {}", show::state(parts, u64::from(to))));
-    cells.push(show::message(parts, if parts.counting { m.other } else { m.step }));
-    if parts.counting {
+    cells.push(show::message(parts, if parts.form == Form::Message { m.step } else { m.other }));
+    if parts.form == Form::Counting {
         cells.push(match m.step.source {
             0 => "0 correct".to_string(),
             1 => "1 faulty".to_string(),
@@ -78,13 +80,13 @@ fn row(parts: &Parts, i: usize, m: &Move) -> Vec<String> {
         });
     }
     cells.push(parts.sends(from, to).map_or(String::new(), |kind| format!("type {kind}")));
-    cells.extend(m.after.received[usize::from(board)].iter().map(|&counts| show::sum(counts)));
+    cells.extend(m.after.received[usize::from(board)].iter().map(|counts| show::sum(counts)));
     cells.extend(m.after.sent.iter().map(u32::to_string));
     cells
 }
 
-// For programs: `start`, then for each step its number, record and source in the other form, and the report's lines of
-// its board and of what was sent.
+// For programs: `start`, then for each step its number, record and translated source, and the report's lines of its board and
+// of what was sent.
 fn lines(parts: &Parts, moves: &[Move]) -> String {
     let mut text = "start".to_string();
     text.extend(parts.starts.iter().map(|state| format!(" {state}")));

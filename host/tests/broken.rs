@@ -1,10 +1,11 @@
 //! The comparison can fail: each broken bench differs from the library on some seeded bundle. The first five are the
-//! outline's slips that look harmless, the next four take waits wrongly, the others are what it asks to be caught.
+//! outline's slips that look harmless, the next four take waits wrongly, five more the plain form, six the form asked for; the
+//! others are what the outline asks to be caught.
 
 use macaroosh::bundles::{case, Dice};
 use macaroosh::compare::compare;
 use macaroosh::model::{Bundle, Configuration, Messages, Model, Outline};
-use macaroosh::{Answer, Bench, First, Library, Refusal, Step};
+use macaroosh::{Answer, Bench, First, Form, Library, Refusal, Step};
 
 // The first seed whose bundle shows the difference.
 fn caught(broken: &dyn Bench) -> Option<u64> {
@@ -112,16 +113,68 @@ impl Outline for RefusesWaits {
     }
 }
 
+// A plain count is bounded by sent alone, or by sent plus t.
+struct Bound(fn(&Bundle) -> usize);
+
+impl Outline for Bound {
+    fn in_transit(&self, bundle: &Bundle, before: &Configuration, step: Step) -> bool {
+        let (p, m) = (usize::from(step.board), usize::from(step.kind));
+        match (&before.received[p][m], &before.sent[m]) {
+            (Messages::Count(got), Messages::Count(sent)) => *got < sent + (self.0)(bundle),
+            _ => Model.in_transit(bundle, before, step),
+        }
+    }
+}
+
+// From plain form the faulty tag comes before the correct one.
+struct FaultyFirst;
+
+impl Outline for FaultyFirst {
+    fn translated(&self, from: Form, other: &Bundle, reached: &Configuration, step: Step) -> Step {
+        let faulty = Step { source: 1, ..step };
+        if from == Form::Plain && !step.silent() && Model.in_transit(other, reached, faulty) {
+            return faulty;
+        }
+        Model.translated(from, other, reached, step)
+    }
+}
+
+// From plain form every tag is correct.
+struct CorrectOnly;
+
+impl Outline for CorrectOnly {
+    fn translated(&self, from: Form, other: &Bundle, reached: &Configuration, step: Step) -> Step {
+        if from == Form::Plain {
+            return step;
+        }
+        Model.translated(from, other, reached, step)
+    }
+}
+
+// To plain form tags stay.
+struct KeepsTags;
+
+impl Outline for KeepsTags {
+    fn translated(&self, from: Form, other: &Bundle, reached: &Configuration, step: Step) -> Step {
+        if other.form == Form::Plain {
+            return step;
+        }
+        Model.translated(from, other, reached, step)
+    }
+}
+
 // The model, but for one of its calls.
 struct But {
     run: fn(&[u8], &[u8], &mut [u64]) -> Answer,
     translate: fn(&[u8], &[u8], &mut [u8]) -> Answer,
+    translate_to: fn(&[u8], &[u8], u64, &mut [u8]) -> Answer,
     first_step: fn(&[u8], &[u8]) -> First,
 }
 
 const SOUND: But = But {
     run: |bundle, standing, words| Model.run(bundle, standing, words),
     translate: |bundle, standing, out| Model.translate(bundle, standing, out),
+    translate_to: |bundle, standing, form, out| Model.translate_to(bundle, standing, form, out),
     first_step: |bundle, standing| Model.first_step(bundle, standing),
 };
 
@@ -132,6 +185,10 @@ impl Bench for But {
 
     fn translate(&self, bundle: &[u8], standing: &[u8], out: &mut [u8]) -> Answer {
         (self.translate)(bundle, standing, out)
+    }
+
+    fn translate_to(&self, bundle: &[u8], standing: &[u8], form: u64, out: &mut [u8]) -> Answer {
+        (self.translate_to)(bundle, standing, form, out)
     }
 
     fn first_step(&self, bundle: &[u8], standing: &[u8]) -> First {
@@ -198,6 +255,50 @@ fn half_written(bundle: &[u8], standing: &[u8], out: &mut [u8]) -> Answer {
     answer
 }
 
+// Without a form asked for, plain goes to message.
+fn plain_to_message(bundle: &[u8], standing: &[u8], out: &mut [u8]) -> Answer {
+    match bundle.last() {
+        Some(2) => Model.translate_to(bundle, standing, 0, out),
+        _ => Model.translate(bundle, standing, out),
+    }
+}
+
+// Of the form asked for only the lowest byte is looked at, or the lowest four.
+fn form_at_8_bits(bundle: &[u8], standing: &[u8], form: u64, out: &mut [u8]) -> Answer {
+    Model.translate_to(bundle, standing, u64::from(form as u8), out)
+}
+
+fn form_at_32_bits(bundle: &[u8], standing: &[u8], form: u64, out: &mut [u8]) -> Answer {
+    Model.translate_to(bundle, standing, u64::from(form as u32), out)
+}
+
+// The bundle's own form is refused before anything is read.
+fn own_form_first(bundle: &[u8], standing: &[u8], form: u64, out: &mut [u8]) -> Answer {
+    match bundle.last() {
+        Some(&own) if u64::from(own) == form => Answer { refusal: 31, place: 0, count: 0 },
+        _ => Model.translate_to(bundle, standing, form, out),
+    }
+}
+
+// The form asked for is looked at after the room.
+fn form_after_room(bundle: &[u8], standing: &[u8], form: u64, out: &mut [u8]) -> Answer {
+    let answer = Model.translate_to(bundle, standing, form, out);
+    if answer.refusal == 31 && out.len() < bundle.len() {
+        return Answer { refusal: 30, ..answer };
+    }
+    answer
+}
+
+// A bundle that is in that form is copied.
+fn copies_its_own(bundle: &[u8], standing: &[u8], form: u64, out: &mut [u8]) -> Answer {
+    let answer = Model.translate_to(bundle, standing, form, out);
+    if answer.refusal == 31 && form < 3 && out.len() >= bundle.len() {
+        out[..bundle.len()].copy_from_slice(bundle);
+        return Answer { refusal: 0, place: 0, count: bundle.len() as u32 };
+    }
+    answer
+}
+
 fn always_none(bundle: &[u8], standing: &[u8]) -> First {
     Model.first_step(bundle, standing).map(|_| None)
 }
@@ -208,7 +309,7 @@ fn place_lost(bundle: &[u8], standing: &[u8]) -> First {
 
 #[test]
 fn every_broken_bench_is_caught() {
-    let broken: [(&str, &dyn Bench); 18] = [
+    let broken: [(&str, &dyn Bench); 29] = [
         ("a joint count", &JointCount),
         ("thresholds before the receipt", &CountsBefore),
         ("hears its own echo at once", &HearsItself),
@@ -218,6 +319,17 @@ fn every_broken_bench_is_caught() {
         ("a wait with a message is not", &OnlyMoves),
         ("a move without a message is not", &OnlyReceipts),
         ("waits are refused", &RefusesWaits),
+        ("a plain count bounded by sent alone", &Bound(|_| 0)),
+        ("a plain count bounded by sent plus t", &Bound(|bundle| bundle.t)),
+        ("the faulty tag first", &FaultyFirst),
+        ("only correct tags", &CorrectOnly),
+        ("tags in plain form", &KeepsTags),
+        ("plain to message by itself", &But { translate: plain_to_message, ..SOUND }),
+        ("the form at 8 bits", &But { translate_to: form_at_8_bits, ..SOUND }),
+        ("the form at 32 bits", &But { translate_to: form_at_32_bits, ..SOUND }),
+        ("its own form before reading", &But { translate_to: own_form_first, ..SOUND }),
+        ("the form after the room", &But { translate_to: form_after_room, ..SOUND }),
+        ("its own form copied", &But { translate_to: copies_its_own, ..SOUND }),
         ("refuses everything", &But { run: refuses_all, ..SOUND }),
         ("an idle body", &But { run: idle_run, ..SOUND }),
         ("one step, then only counts", &But { run: counted_up, ..SOUND }),

@@ -6,7 +6,7 @@ use macaroosh::cases::cases;
 use macaroosh::compare::{compare, Alike};
 use macaroosh::fast::Fast;
 use macaroosh::model::{read, Model};
-use macaroosh::{refusals, Bench, Library, ECHO};
+use macaroosh::{refusals, Bench, Form, Library, ECHO};
 use std::collections::BTreeMap;
 
 // The refusals of run and translation that came up on the seed's bundle, and the kind of its first step.
@@ -24,7 +24,7 @@ fn agrees(bench: &dyn Bench, seed: u64) -> (Vec<u8>, Option<String>) {
 fn kind(bundle: &[u8], standing: &[u8], alike: &Alike) -> Option<String> {
     let first = alike.first.ok()?;
     let bundle = read(bundle, standing).ok()?;
-    let form = if bundle.counting { "counting" } else { "message" };
+    let form = bundle.form.name();
     Some(match first {
         None => format!("{form} form: none"),
         Some(step) => {
@@ -45,7 +45,7 @@ fn agrees_on_seeds(bench: &(dyn Bench + Sync)) {
         kind.into_iter().for_each(|kind| *kinds.entry(kind).or_default() += 1);
     }
     println!("{seeds} bundles, calls by refusal: {seen:?}; first steps: {kinds:?}");
-    for form in ["message", "counting"] {
+    for form in Form::ALL.map(Form::name) {
         for kind in ["none", "no message, moves", "a message, moves", "a message, stays"] {
             assert!(kinds.contains_key(&format!("{form} form: {kind}")), "{form} form, {kind}: {kinds:?}");
         }

@@ -3,7 +3,7 @@
 use macaroosh::bundles::{any, Dice};
 use macaroosh::drawings::Text;
 use macaroosh::model::{read_table, report, Model};
-use macaroosh::{sketches, MOST_BYTES};
+use macaroosh::{sketches, Form, MOST_BYTES};
 use std::ffi::OsStr;
 use std::fs::{self, File};
 use std::io::{Read, Write};
@@ -84,6 +84,18 @@ board  state        has type 0
     let plain = "result 0 0 5\np 0 2 0 0\np 1 2 0 0\np 2 3 2 1\nsent 3\n";
     says(&["run", "--plain"], "w.bundle", 0, plain, "");
     says(&["--plain", "run"], "w-counting.bundle", 0, plain, "");
+    let shown = "\
+plain form, n = 4, t = 1, f = 1: boards 0 to 2 are correct, 3 is faulty
+after 5 steps: what each board has (from correct and faulty boards together), and what was sent
+
+board  state        has type 0
+    0  2                     0
+    1  2                     0
+    2  3 accepting           3
+ sent                        3
+";
+    says(&["run"], "w-plain.bundle", 0, shown, "");
+    says(&["run", "--plain"], "w-plain.bundle", 0, "result 0 0 5\np 0 2 0\np 1 2 0\np 2 3 3\nsent 3\n", "");
 }
 
 #[test]
@@ -125,10 +137,25 @@ step  board  rule  from -> to           receives              sends   has type 0
         assert!(line.contains(sender) && line.contains(tag), "{line}");
     }
     assert_eq!(counting.lines().count(), 11);
+    // For a plain one the sender alone, and one count.
+    let shown = "\
+plain form, n = 4, t = 1, f = 1: boards 0 to 2 are correct, 3 is faulty
+boards start in states 1 1 1
+after each step: what its board has (from correct and faulty boards together), and what was sent
+senders are those that the translation chooses
+
+step  board  rule  from -> to           receives             sends   has type 0  sent type 0
+   0      0     3     1 -> 2            no message           type 0           0            1
+   1      1     3     1 -> 2            no message           type 0           0            2
+   2      2     3     1 -> 2            type 0 from board 0  type 0           1            3
+   3      2     4     2 -> 2            type 0 from board 1                   2            3
+   4      2     5     2 -> 3 accepting  type 0 from board 2                   3            3
+";
+    says(&["trace"], "w-plain.bundle", 0, shown, "");
 }
 
 #[test]
-fn trace_for_programs_names_both_forms() {
+fn trace_for_programs_has_the_translated_source() {
     let start = "start 1 1 1\nstep 0 0 3 255 255 255\np 0 2 0 0\nsent 1\nstep 1 1 3 255 255 255\np 1 2 0 0\nsent 2\n";
     let message = "step 2 2 3 0 0 0\np 2 2 1 0\nsent 3\nstep 3 2 4 0 3 1\np 2 2 1 1\nsent 3\n";
     let counting = message.replace("step 3 2 4 0 3 1", "step 3 2 4 0 1 3");
@@ -137,6 +164,26 @@ fn trace_for_programs_names_both_forms() {
     says(&["trace", "--plain"], "w.bundle", 0, &all, "");
     let all = format!("result 0 0 5\n{start}{counting}step 4 2 5 0 0 1\n{accepts}");
     says(&["trace", "--plain"], "w-counting.bundle", 0, &all, "");
+    let plain = "\
+result 0 0 5
+start 1 1 1
+step 0 0 3 255 255 255
+p 0 2 0
+sent 1
+step 1 1 3 255 255 255
+p 1 2 0
+sent 2
+step 2 2 3 0 0 0
+p 2 2 1
+sent 3
+step 3 2 4 0 0 1
+p 2 2 2
+sent 3
+step 4 2 5 0 0 2
+p 2 3 3
+sent 3
+";
+    says(&["trace", "--plain"], "w-plain.bundle", 0, plain, "");
     let all = format!("result 24 4 4\n{start}{message}");
     says(&["trace", "--plain"], "w-echo-twice.bundle", 1, &all, "");
 }
@@ -166,7 +213,8 @@ as bytes: 00 04 00 00
 ";
     says(&["first"], "w.bundle", 0, shown, "");
     says(&["first"], "w-counting.bundle", 0, &shown.replace("from board 0", "from a correct board"), "");
-    for bundle in ["w.bundle", "w-counting.bundle"] {
+    says(&["first"], "w-plain.bundle", 0, &shown.replace("type 0 from board 0", "a message of type 0"), "");
+    for bundle in ["w.bundle", "w-counting.bundle", "w-plain.bundle"] {
         says(&["first", "--plain"], bundle, 0, "result 0 0\nstep 0 4 0 0\n", "");
     }
     let shown = "after 16 steps the run is quiet: no board can do anything but wait\n";
@@ -207,6 +255,41 @@ fn translate_writes_the_other_form() {
     assert_eq!((text(&got.stderr), got.stdout), ("result 0 0 31\n", bundle("w-counting.bundle")));
     says(&["translate"], "w-echo-twice.bundle", 1, "", TWICE);
     says(&["translate", "--plain"], "w-echo-twice.bundle", 1, "", "result 24 4 0\n");
+    let got = asked(&[OsStr::new("translate"), example("w-plain.bundle").as_os_str()]);
+    assert_eq!((got.status.code(), text(&got.stderr)), (Some(0), "wrote 31 bytes in counting form\n"));
+}
+
+#[test]
+fn translate_writes_the_form_asked_for() {
+    let bundle = |name: &str| fs::read(example(name)).expect("an example");
+    let to = |form: &str, from: &str| {
+        asked(&[OsStr::new("translate"), example(from).as_os_str(), OsStr::new("--to"), OsStr::new(form)])
+    };
+    let translations = [
+        ("w.bundle", "counting", "w-counting.bundle"),
+        ("w.bundle", "plain", "w-plain.bundle"),
+        ("w-counting.bundle", "message", "w.bundle"),
+        ("w-counting.bundle", "plain", "w-plain.bundle"),
+    ];
+    for (from, form, other) in translations {
+        let got = to(form, from);
+        assert_eq!((got.status.code(), got.stdout), (Some(0), bundle(other)), "{from} to {form}");
+        assert_eq!(text(&got.stderr), format!("wrote 31 bytes in {form} form\n"));
+    }
+    // The senders that plain W is given are correct ones, and back it is the same.
+    for form in ["message", "counting"] {
+        let there = to(form, "w-plain.bundle").stdout;
+        let back = asked_with_input(&["translate", "-", "--to", "plain"], &there);
+        assert_eq!((back.status.code(), back.stdout), (Some(0), bundle("w-plain.bundle")), "plain to {form}");
+        let sources = [[0, 1, 2], [0, 0, 0]][usize::from(form == "counting")];
+        assert_eq!([14, 18, 22].map(|at| there[at]), sources, "plain to {form}");
+    }
+    let own = "refused 31: the form asked for is the bundle's own, or there is no such form\n";
+    for (form, name) in [("message", "w.bundle"), ("counting", "w-counting.bundle"), ("plain", "w-plain.bundle")] {
+        says(&["translate", "--to", form], name, 1, "", own);
+        says(&["translate", "--plain", "--to", form], name, 1, "", "result 31 0 0\n");
+    }
+    says(&["translate", "--to", "plain"], "w-echo-twice.bundle", 1, "", TWICE);
 }
 
 #[test]
@@ -407,6 +490,7 @@ fn help_is_there() {
         for command in ["translate FILE", "draw TABLE", "undraw DRAWING"] {
             assert!(text(&got.stdout).contains(&format!("macaroosh {command}")));
         }
+        assert!(text(&got.stdout).contains("--to FORM"));
     }
     let got = asked::<&str>(&[]);
     assert_eq!((got.status.code(), text(&got.stdout)), (Some(2), ""));
@@ -424,7 +508,10 @@ fn mistake<S: AsRef<OsStr>>(words: &[S], told: &str) {
 #[test]
 fn wrong_words_are_told() {
     mistake(&["rnu", "x"], "there is no command 'rnu'; the commands are run, trace, first, translate, draw, undraw");
-    mistake(&["run", "--plian", "x"], "there is no option '--plian'; the options are --standing, -o, --svg, --png");
+    mistake(
+        &["run", "--plian", "x"],
+        "there is no option '--plian'; the options are --standing, -o, --to, --svg, --png",
+    );
     mistake(&["run"], "which bundle?");
     mistake(&["draw"], "which table?");
     mistake(&["undraw"], "which drawing?");
@@ -437,6 +524,12 @@ fn wrong_words_are_told() {
     mistake(&["run", "x", "--svg"], "--svg and --png are for draw alone");
     mistake(&["undraw", "x", "--png"], "--svg and --png are for draw alone");
     mistake(&["draw", "x", "--svg", "--png"], "--svg or --png is given twice");
+    mistake(&["translate", "x", "--to", "2"], "there is no form '2'; the forms are message, counting, plain");
+    mistake(&["translate", "x", "--to", "Plain"], "there is no form 'Plain'; the forms are message, counting, plain");
+    mistake(&["translate", "x", "--to"], "--to needs a form after it");
+    mistake(&["translate", "x", "--to", "plain", "--to", "plain"], "--to is given twice");
+    mistake(&["run", "x", "--to", "plain"], "--to is for translate alone");
+    mistake(&["draw", "x", "--to", "plain"], "--to is for translate alone");
     mistake(&["run", "x", "-o"], "-o needs a file after it");
     mistake(&["run", "x", "--standing"], "--standing needs a file after it");
     mistake(&["run", "x", "-o", "a", "-o", "b"], "-o is given twice");
@@ -568,11 +661,14 @@ fn no_bundle_makes_it_stumble() {
         let bundle = any(&mut Dice::new(seed));
         let got = asked_with_input(&["run", "--plain", "-"], &bundle);
         assert_eq!(text(&got.stdout), report(&bundle), "seed {seed}");
-        for command in ["run", "trace", "first", "translate"] {
-            let got = asked_with_input(&[command, "-"], &bundle);
-            let refused = !report(&bundle).starts_with("result 0 ");
-            assert_eq!(got.status.code(), Some(i32::from(refused)), "seed {seed}: {command}");
-            assert_eq!(text(&got.stderr).starts_with("refused "), refused, "seed {seed}: {command}");
+        let refused = !report(&bundle).starts_with("result 0 ");
+        let own = bundle.last().and_then(|&number| Form::of(u64::from(number)));
+        let translations = Form::ALL.map(|form| (vec!["translate", "--to", form.name()], refused || own == Some(form)));
+        let others = ["run", "trace", "first", "translate"].map(|command| (vec![command], refused));
+        for (words, refused) in others.into_iter().chain(translations) {
+            let got = asked_with_input(&[&words[..], &["-"]].concat(), &bundle);
+            assert_eq!(got.status.code(), Some(i32::from(refused)), "seed {seed}: {words:?}");
+            assert_eq!(text(&got.stderr).starts_with("refused "), refused, "seed {seed}: {words:?}");
         }
     }
 }

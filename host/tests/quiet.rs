@@ -1,10 +1,10 @@
 //! When a run has gone quiet: run and translation accept waits, and the first-step question passes them over. A wait is a
 //! step with no message whose rule has from = to.
 
-use macaroosh::bundles::{case, closed, each_seed, with, Dice};
+use macaroosh::bundles::{case, closed, each_seed, in_form, with, Dice};
 use macaroosh::fast::Fast;
 use macaroosh::model::{read, Bundle, Model};
-use macaroosh::{Answer, Bench, First, Library, Step, ECHO, MOST_WORDS};
+use macaroosh::{Bench, First, Form, Library, Step, ECHO, MOST_WORDS};
 use std::collections::BTreeMap;
 
 const BENCHES: [(&str, &dyn Bench); 3] = [("model", &Model), ("library", &Library), ("fast", &Fast)];
@@ -14,13 +14,6 @@ const W: [u8; 31] =
 
 // W, then the first possible step again and again: boards 0 and 1 hear all four echoes and accept, and board 2 hears its own.
 const QUIET: &[u8] = include_bytes!("../../examples/quiet.bundle");
-
-fn other_form(bench: &dyn Bench, bytes: &[u8]) -> Vec<u8> {
-    let mut out = vec![0; bytes.len()];
-    let written = Answer { refusal: 0, place: 0, count: bytes.len() as u32 };
-    assert_eq!(bench.translate(bytes, &ECHO, &mut out), written);
-    out
-}
 
 fn runs(bench: &dyn Bench, bytes: &[u8], standing: &[u8]) -> bool {
     bench.run(bytes, standing, &mut [0; MOST_WORDS]).refusal == 0
@@ -40,13 +33,13 @@ fn small(rules: &[[u8; 5]], starts: &[u8], numbers: [u8; 4]) -> Vec<u8> {
 #[test]
 fn w_goes_quiet_by_its_first_steps() {
     for (who, bench) in BENCHES {
-        for (from, to) in [(W.to_vec(), QUIET.to_vec()), (other_form(bench, &W), other_form(bench, QUIET))] {
-            let mut bundle = from;
+        for form in Form::ALL {
+            let (mut bundle, to) = (in_form(bench, &W, form), in_form(bench, QUIET, form));
             while let Some(step) = bench.first_step(&bundle, &ECHO).expect("no refusal") {
                 bundle = with(&bundle, step);
                 assert!(bundle.len() <= to.len() && runs(bench, &bundle, &ECHO), "{who}: {step:?}");
             }
-            assert_eq!(bundle, to, "{who}");
+            assert_eq!(bundle, to, "{who}: {form:?}");
         }
     }
 }
@@ -54,13 +47,13 @@ fn w_goes_quiet_by_its_first_steps() {
 #[test]
 fn a_quiet_run_still_accepts_waits_and_stays_quiet() {
     for (who, bench) in BENCHES {
-        for quiet in [QUIET.to_vec(), other_form(bench, QUIET)] {
-            for board in 0..3 {
-                let waited = with(&quiet, Step::of([board, 6, 255, 255]));
-                assert!(runs(bench, &waited, &ECHO), "{who}: board {board}");
-                let other = with(&other_form(bench, &quiet), Step::of([board, 6, 255, 255]));
-                assert_eq!(other_form(bench, &waited), other, "{who}: board {board}");
-                assert_eq!(bench.first_step(&waited, &ECHO), Ok(None), "{who}: board {board}");
+        for board in 0..3 {
+            let wait = Step::of([board, 6, 255, 255]);
+            for form in Form::ALL {
+                let waited = with(&in_form(bench, QUIET, form), wait);
+                assert!(runs(bench, &waited, &ECHO), "{who}: {form:?}, board {board}");
+                assert_eq!(in_form(bench, &with(QUIET, wait), form), waited, "{who}: {form:?}, board {board}");
+                assert_eq!(bench.first_step(&waited, &ECHO), Ok(None), "{who}: {form:?}, board {board}");
             }
         }
     }
@@ -70,7 +63,7 @@ fn a_quiet_run_still_accepts_waits_and_stays_quiet() {
 fn boards_that_wait_for_ever_are_quiet() {
     // No board starts with an echo to send and none is faulty: rule 0 waits, and nothing else is accepted.
     for (who, bench) in BENCHES {
-        for form in [0, 1] {
+        for form in [0, 1, 2] {
             let bundle = [0, 0, 0, 0, 0, 0, 4, 0, 4, 1, 0, form];
             assert_eq!(bench.first_step(&bundle, &ECHO), Ok(None), "{who}: form {form}");
             assert!(runs(bench, &with(&bundle, Step::of([3, 0, 255, 255])), &ECHO), "{who}: form {form}");
@@ -82,7 +75,7 @@ fn boards_that_wait_for_ever_are_quiet() {
 fn a_table_that_only_waits_is_quiet_from_the_start() {
     let wait = Step::of([0, 0, 255, 255]);
     for (who, bench) in BENCHES {
-        for form in [0, 1] {
+        for form in [0, 1, 2] {
             let mut bundle = small(&[[0, 0, 0, 0, 0]; 3], &[0, 0], [2, 0, 0, form]);
             for steps in 0..4 {
                 assert_eq!(bench.first_step(&bundle, &[]), Ok(None), "{who}: form {form}, {steps} waits");
@@ -97,11 +90,11 @@ fn a_table_that_only_waits_is_quiet_from_the_start() {
 fn a_wait_that_receives_a_message_is_possible() {
     // The second table asks for a message, so that its rule is a wait only once there is one.
     for (who, bench) in BENCHES {
-        for form in [0, 1] {
+        for form in [0, 1, 2] {
             for least in [0, 1] {
                 let bundle = small(&[[0, 0, 0, 0, least]], &[0, 0], [3, 1, 1, form]);
-                // The faulty board's message: of sender 2, or of tag 1.
-                let source = [2, 1][usize::from(form)];
+                // The faulty board's message: of sender 2, of tag 1, or of the only source.
+                let source = [2, 1, 0][usize::from(form)];
                 let name = format!("{who}: form {form}, threshold {least}");
                 assert_eq!(bench.first_step(&bundle, &[]), given([0, 0, 0, source]), "{name}");
                 let heard = with(&bundle, Step::of([0, 0, 0, source]));
@@ -119,11 +112,11 @@ fn a_schedule_s_length_does_not_limit_it() {
     // 4,096 steps: waits alone, and W's with waits of board 0 after them.
     let waits = |rule| vec![Step::of([0, rule, 255, 255]); 4_096];
     for (who, bench) in BENCHES {
-        for form in [0, 1] {
+        for form in [0, 1, 2] {
             let bundle = closed(&[0, 0], &waits(0), 2, [2, 0, 0, form]);
             assert_eq!(bench.first_step(&bundle, &ECHO), Ok(None), "{who}: form {form}");
         }
-        for w in [W.to_vec(), other_form(bench, &W)] {
+        for w in Form::ALL.map(|form| in_form(bench, &W, form)) {
             let mut steps: Vec<Step> = w[3..23].chunks(4).map(|s| Step::of([s[0], s[1], s[2], s[3]])).collect();
             steps.extend(&waits(4)[5..]);
             let bundle = closed(&w[..3], &steps, 3, [4, 1, 1, w[30]]);
@@ -137,7 +130,7 @@ fn moves_without_a_message_come_in_the_order_of_rules() {
     // Rule 0 waits in state 0, rule 1 leads to state 1, rule 2 back.
     let rules = [[0, 0, 0, 0, 0], [0, 1, 0, 0, 0], [1, 0, 0, 0, 0]];
     for (who, bench) in BENCHES {
-        for form in [0, 1] {
+        for form in [0, 1, 2] {
             // Nothing is in transit: rule 0 is passed over, and there and back is possible for ever.
             let bundle = small(&rules, &[0], [1, 0, 0, form]);
             assert_eq!(bench.first_step(&bundle, &[]), given([0, 1, 255, 255]), "{who}: form {form}");
@@ -145,9 +138,10 @@ fn moves_without_a_message_come_in_the_order_of_rules() {
             assert_eq!(bench.first_step(&moved, &[]), given([0, 2, 255, 255]), "{who}: form {form}");
             let back = with(&moved, Step::of([0, 2, 255, 255]));
             assert_eq!(bench.first_step(&back, &[]), given([0, 1, 255, 255]), "{who}: form {form}");
-            // A message is: rule 0 with it comes before rule 1 without.
+            // A message is, that of the faulty board: rule 0 with it comes before rule 1 without.
             let bundle = small(&rules, &[0], [2, 1, 1, form]);
-            assert_eq!(bench.first_step(&bundle, &[]), given([0, 0, 0, 1]), "{who}: form {form}");
+            let source = [1, 1, 0][usize::from(form)];
+            assert_eq!(bench.first_step(&bundle, &[]), given([0, 0, 0, source]), "{who}: form {form}");
         }
     }
 }
@@ -169,7 +163,7 @@ fn every_step(bundle: &Bundle) -> Vec<Step> {
 
 // The bench's first step is what its own run accepts after the schedule, waits aside. Gives the form, whether a step is
 // possible and whether a wait was accepted before it; nothing of a bundle that is refused or has too many steps to try.
-fn judged_by_run(bench: &dyn Bench, seed: u64) -> Option<(bool, bool, bool)> {
+fn judged_by_run(bench: &dyn Bench, seed: u64) -> Option<(Form, bool, bool)> {
     let (bytes, standing) = case(&mut Dice::new(seed));
     let bundle = read(&bytes, &standing).ok()?;
     let steps = every_step(&bundle);
@@ -187,17 +181,17 @@ fn judged_by_run(bench: &dyn Bench, seed: u64) -> Option<(bool, bool, bool)> {
         }
     }
     assert_eq!(bench.first_step(&bytes, &standing), Ok(first), "seed {seed}: {bytes:02x?}");
-    Some((bundle.counting, first.is_some(), waited))
+    Some((bundle.form, first.is_some(), waited))
 }
 
 fn agrees_with_its_own_run(bench: &(dyn Bench + Sync)) {
-    let mut seen: BTreeMap<(bool, bool, bool), usize> = BTreeMap::new();
+    let mut seen: BTreeMap<(Form, bool, bool), usize> = BTreeMap::new();
     for kind in each_seed(6_000, |seed| judged_by_run(bench, seed)).into_iter().flatten() {
         *seen.entry(kind).or_default() += 1;
     }
-    println!("(counting, possible, waits before): {seen:?}");
-    // In both forms: possible or not, and with waits accepted or none.
-    assert_eq!(seen.len(), 8, "{seen:?}");
+    println!("(form, possible, waits before): {seen:?}");
+    // In each form: possible or not, and with waits accepted or none.
+    assert_eq!(seen.len(), 12, "{seen:?}");
 }
 
 #[test]

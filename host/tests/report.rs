@@ -1,7 +1,8 @@
 //! The proved report program against the model, on seeded bundles. `REPORTS=n` tries more than 1,500.
 
 use macaroosh::bundles::{any, each_seed, seeds, Dice};
-use macaroosh::model::report;
+use macaroosh::model::{read, report};
+use macaroosh::{Form, ECHO};
 use std::collections::BTreeSet;
 use std::io::Write;
 use std::path::Path;
@@ -20,18 +21,25 @@ fn proved(bundle: &[u8]) -> String {
     String::from_utf8(output.stdout).expect("text")
 }
 
-// The refusal that was reported.
-fn agrees(seed: u64) -> String {
+// The refusal that was reported, and the form of a bundle that is not refused by reading.
+fn agrees(seed: u64) -> (String, Option<Form>) {
     let bundle = any(&mut Dice::new(seed));
     let expected = report(&bundle);
     assert_eq!(proved(&bundle), expected, "seed {seed}: {bundle:02x?}");
-    expected.split(' ').nth(1).expect("a number").to_string()
+    let form = read(&bundle, &ECHO).ok().map(|bundle| bundle.form);
+    (expected.split(' ').nth(1).expect("a number").to_string(), form)
 }
 
 #[test]
 fn the_report_program_agrees_with_the_model() {
-    let seen: BTreeSet<String> = each_seed(seeds("REPORTS", 1_500), agrees).into_iter().collect();
-    for refusal in ["0", "3", "4", "6", "10", "11", "12", "13", "14", "20", "21", "22", "23", "24", "25"] {
-        assert!(seen.contains(refusal), "no bundle was refused with {refusal}: {seen:?}");
+    let seen: BTreeSet<(String, Option<Form>)> = each_seed(seeds("REPORTS", 1_500), agrees).into_iter().collect();
+    for refusal in ["3", "4", "6", "10", "11", "12", "13", "14"] {
+        assert!(seen.contains(&(refusal.to_string(), None)), "no bundle was refused with {refusal}: {seen:?}");
+    }
+    for form in Form::ALL {
+        for refusal in ["0", "20", "21", "22", "23", "24", "25"] {
+            let seen_there = seen.contains(&(refusal.to_string(), Some(form)));
+            assert!(seen_there, "no bundle of {} form was answered with {refusal}: {seen:?}", form.name());
+        }
     }
 }

@@ -1,24 +1,21 @@
-//! A step changes the words that the outline gives it, and no other: the run of every prefix of a seeded schedule, in both forms,
+//! A step changes the words that the outline gives it, and no other: the run of every prefix of a seeded schedule, in each form,
 //! beside the run of the prefix one step shorter. `SEEDS=n` tries more than 2,000. What is stored without a change is counted by
 //! tests/written.
 
-use macaroosh::bundles::{bundle, closed, each_seed, seeds, Dice};
+use macaroosh::bundles::{bundle, closed, each_seed, in_form, seeds, Dice};
 use macaroosh::compare::compare;
 use macaroosh::fast::Fast;
 use macaroosh::growth::{growth, places};
 use macaroosh::model::{read, Bundle, Configuration, Messages, Model, Outline};
-use macaroosh::{Bench, Library, Refusal, Step, ECHO, MOST_WORDS};
+use macaroosh::{Bench, Form, Library, Refusal, Step, ECHO, MOST_WORDS};
 use std::collections::BTreeMap;
 
-// The bundle that the seed names and its translation, up to the first step that is refused.
-fn both_forms(seed: u64) -> [Vec<u8>; 2] {
+// The bundle that the seed names in each form, up to the first step that is refused.
+fn all_forms(seed: u64) -> [(Form, Vec<u8>); 3] {
     let own = bundle(&mut Dice::new(seed));
     let accepted = Model.run(&own, &ECHO, &mut [0; MOST_WORDS]).count as usize;
     let own = prefix(&own, accepted);
-    let mut other = vec![0; own.len()];
-    let answer = Model.translate(&own, &ECHO, &mut other);
-    assert_eq!(answer.refusal, 0, "seed {seed}");
-    [own, other]
+    Form::ALL.map(|form| (form, in_form(&Model, &own, form)))
 }
 
 // The bundle with so many of its steps.
@@ -56,22 +53,22 @@ fn changed(bench: &dyn Bench, bytes: &[u8], dice: &mut Dice) -> Result<Vec<usize
     Ok(counts)
 }
 
-// Changes what it should on every seed in both forms, and the seeds come to every number of words in each.
+// Changes what it should on every seed in each form, and the seeds come to every number of words in each.
 fn changes_what_it_should(bench: &(dyn Bench + Sync)) {
     let seeds = seeds("SEEDS", 2_000);
-    let mut seen: BTreeMap<(bool, usize), usize> = BTreeMap::new();
+    let mut seen: BTreeMap<(Form, usize), usize> = BTreeMap::new();
     let made = each_seed(seeds, |seed| {
-        both_forms(seed).map(|bytes| {
+        all_forms(seed).map(|(form, bytes)| {
             let counts = changed(bench, &bytes, &mut Dice::new(seed));
             let counts = counts.unwrap_or_else(|step| panic!("seed {seed}: {step}\nbundle {bytes:02x?}"));
-            (bytes[bytes.len() - 1] == 1, counts)
+            (form, counts)
         })
     });
-    for (counting, counts) in made.into_iter().flatten() {
-        counts.into_iter().for_each(|count| *seen.entry((counting, count)).or_default() += 1);
+    for (form, counts) in made.into_iter().flatten() {
+        counts.into_iter().for_each(|count| *seen.entry((form, count)).or_default() += 1);
     }
     println!("{seeds} schedules, steps by form and words changed: {seen:?}");
-    let all = [false, true].map(|counting| [0, 1, 2, 3].map(|count| (counting, count))).concat();
+    let all = Form::ALL.map(|form| [0, 1, 2, 3].map(|count| (form, count))).concat();
     assert_eq!(seen.into_keys().collect::<Vec<_>>(), all);
 }
 
@@ -144,11 +141,12 @@ fn moves_the_next_board(bundle: &Bundle, left: &mut Configuration, step: Step) {
     left.states[next_board(bundle, step)] = left.states[usize::from(step.board)];
 }
 
-fn writes_both_counts(bundle: &Bundle, left: &mut Configuration, step: Step) {
-    if bundle.counting && !step.silent() {
-        let cell = &mut left.received[usize::from(step.board)][usize::from(step.kind)];
-        let (correct, _) = cell.counts(0);
-        *cell = Messages::Counts(correct, correct);
+fn writes_both_counts(_: &Bundle, left: &mut Configuration, step: Step) {
+    if step.silent() {
+        return;
+    }
+    if let Messages::Counts(correct, faulty) = &mut left.received[usize::from(step.board)][usize::from(step.kind)] {
+        *faulty = *correct;
     }
 }
 
@@ -162,18 +160,15 @@ fn one_word_more_is_caught() {
         ("writes both counts of a cell", WritesMore(writes_both_counts)),
     ];
     for (name, bench) in broken {
-        for (form, counting) in [("message", false), ("counting", true)] {
+        for form in Form::ALL {
             let caught = (1..=500).find(|&seed| {
-                both_forms(seed)
-                    .iter()
-                    .filter(|bytes| (bytes[bytes.len() - 1] == 1) == counting)
-                    .any(|bytes| changed(&bench, bytes, &mut Dice::new(seed)).is_err())
+                let (_, bytes) = &all_forms(seed)[usize::from(form.number())];
+                changed(&bench, bytes, &mut Dice::new(seed)).is_err()
             });
-            match caught {
-                Some(seed) => println!("{name}, {form} form: seed {seed}"),
-                // Message form has no counts.
-                None => assert_eq!((name, counting), ("writes both counts of a cell", false), "not caught"),
-            }
+            // Only counting form has two counts in a cell.
+            let expected = name != "writes both counts of a cell" || form == Form::Counting;
+            assert_eq!(caught.is_some(), expected, "{name}, {} form", form.name());
+            println!("{name}, {} form: seed {caught:?}", form.name());
         }
     }
 }
@@ -181,7 +176,7 @@ fn one_word_more_is_caught() {
 #[test]
 fn no_word_more_is_not_caught() {
     let sound = WritesMore(|_, _, _| {});
-    assert!(
-        (1..=200).all(|seed| both_forms(seed).iter().all(|bytes| changed(&sound, bytes, &mut Dice::new(seed)).is_ok()))
-    );
+    for (seed, (_, bytes)) in (1..=200).flat_map(|seed| all_forms(seed).map(|made| (seed, made))) {
+        assert!(changed(&sound, &bytes, &mut Dice::new(seed)).is_ok(), "seed {seed}");
+    }
 }

@@ -1,5 +1,6 @@
-/* The header from C: schedule W is run, translated there and back, and asked for its first step, as is a run that is quiet; the
- * echo table is drawn and read back; refusals leave lent memory alone. The last line is 'N passed, M failed'. */
+/* The header from C: schedule W is run in each form, translated there and back and to each form, and asked for its first step,
+ * as is a run that is quiet; the echo table is drawn and read back; refusals leave lent memory alone. The last line is
+ * 'N passed, M failed'. */
 #include "macaroosh.h"
 
 #include <stdio.h>
@@ -17,6 +18,19 @@ static const uint8_t w[] = {
 static const uint8_t counting[] = {
     0x01, 0x01, 0x01, 0x00, 0x03, 0xFF, 0xFF, 0x01, 0x03, 0xFF, 0xFF, 0x02, 0x03, 0x00, 0x00, 0x02,
     0x04, 0x00, 0x01, 0x02, 0x05, 0x00, 0x00, 0x14, 0x00, 0x17, 0x00, 0x04, 0x01, 0x01, 0x01,
+};
+static const uint8_t plain[] = {
+    0x01, 0x01, 0x01, 0x00, 0x03, 0xFF, 0xFF, 0x01, 0x03, 0xFF, 0xFF, 0x02, 0x03, 0x00, 0x00, 0x02,
+    0x04, 0x00, 0x00, 0x02, 0x05, 0x00, 0x00, 0x14, 0x00, 0x17, 0x00, 0x04, 0x01, 0x01, 0x02,
+};
+/* Plain W in counting form, where three correct echoes are in transit; and in message form, with their senders. */
+static const uint8_t all_correct[] = {
+    0x01, 0x01, 0x01, 0x00, 0x03, 0xFF, 0xFF, 0x01, 0x03, 0xFF, 0xFF, 0x02, 0x03, 0x00, 0x00, 0x02,
+    0x04, 0x00, 0x00, 0x02, 0x05, 0x00, 0x00, 0x14, 0x00, 0x17, 0x00, 0x04, 0x01, 0x01, 0x01,
+};
+static const uint8_t of_0_1_2[] = {
+    0x01, 0x01, 0x01, 0x00, 0x03, 0xFF, 0xFF, 0x01, 0x03, 0xFF, 0xFF, 0x02, 0x03, 0x00, 0x00, 0x02,
+    0x04, 0x00, 0x01, 0x02, 0x05, 0x00, 0x02, 0x14, 0x00, 0x17, 0x00, 0x04, 0x01, 0x01, 0x00,
 };
 /* No board has an echo to send and none is faulty: n = 4, t = 1, f = 0, no steps. */
 static const uint8_t quiet[] = {0x00, 0x00, 0x00, 0x00, 0x00, 0x00, 0x04, 0x00, 0x04, 0x01, 0x00, 0x00};
@@ -55,6 +69,7 @@ static int answers(uint64_t packed, unsigned refusal, uint32_t place, uint32_t c
 static void runs(void) {
     static const uint64_t message_words[] = {2, 2, 3, 0, 0, 11, 7, 99};
     static const uint64_t counting_words[] = {2, 2, 3, 0, 0, 0, 0, 2, 1, 3, 99};
+    static const uint64_t plain_words[] = {2, 2, 3, 0, 0, 3, 3, 99};
     uint64_t words[MACAROOSH_MOST_WORDS];
     size_t i;
     for (i = 0; i < MACAROOSH_MOST_WORDS; i++) words[i] = 99;
@@ -63,6 +78,9 @@ static void runs(void) {
     for (i = 0; i < MACAROOSH_MOST_WORDS; i++) words[i] = 99;
     check("W in counting form runs", answers(macaroosh_run(counting, sizeof counting, echo, sizeof echo, words, 10), 0, 0, 5));
     check("its words, and none past them", memcmp(words, counting_words, sizeof counting_words) == 0);
+    for (i = 0; i < MACAROOSH_MOST_WORDS; i++) words[i] = 99;
+    check("W in plain form runs", answers(macaroosh_run(plain, sizeof plain, echo, sizeof echo, words, 7), 0, 0, 5));
+    check("its words, and none past them", memcmp(words, plain_words, sizeof plain_words) == 0);
 }
 
 static void translations(void) {
@@ -71,6 +89,52 @@ static void translations(void) {
     check("to its counting form", memcmp(there, counting, sizeof w) == 0);
     check("and back", answers(macaroosh_translate(there, sizeof w, echo, sizeof echo, back, sizeof back), 0, 0, 31));
     check("to itself", memcmp(back, w, sizeof w) == 0);
+    check("plain W is translated",
+          answers(macaroosh_translate(plain, sizeof w, echo, sizeof echo, there, sizeof there), 0, 0, 31));
+    check("to counting form", memcmp(there, all_correct, sizeof w) == 0);
+}
+
+/* Whether a form of W is written in the form asked for. */
+static int becomes(const uint8_t *from, uint64_t form, const uint8_t *to) {
+    uint8_t out[sizeof w];
+    memset(out, 0xAA, sizeof out);
+    return answers(macaroosh_translate_to(from, sizeof w, echo, sizeof echo, form, out, sizeof out), 0, 0, 31) &&
+           memcmp(out, to, sizeof out) == 0;
+}
+
+/* Whether a form asked for is refused with a number and place, and nothing is written. */
+static int refuses(const uint8_t *from, uint64_t form, size_t room, unsigned refusal, uint32_t place) {
+    uint8_t out[sizeof w], as_it_was[sizeof w];
+    memset(out, 0xAA, sizeof out);
+    memset(as_it_was, 0xAA, sizeof as_it_was);
+    return answers(macaroosh_translate_to(from, sizeof w, echo, sizeof echo, form, out, room), refusal, place, 0) &&
+           memcmp(out, as_it_was, sizeof out) == 0;
+}
+
+static void forms(void) {
+    uint8_t start[sizeof w], twice[sizeof w];
+    check("W to counting form", becomes(w, MACAROOSH_COUNTING, counting));
+    check("W to plain form", becomes(w, MACAROOSH_PLAIN, plain));
+    check("counting W to message form", becomes(counting, MACAROOSH_MESSAGE, w));
+    check("counting W to plain form", becomes(counting, MACAROOSH_PLAIN, plain));
+    check("plain W to message form", becomes(plain, MACAROOSH_MESSAGE, of_0_1_2));
+    check("plain W to counting form", becomes(plain, MACAROOSH_COUNTING, all_correct));
+    check("and back to plain form", becomes(of_0_1_2, MACAROOSH_PLAIN, plain) && becomes(all_correct, MACAROOSH_PLAIN, plain));
+    check("W to its own form", refuses(w, MACAROOSH_MESSAGE, sizeof w, 31, 0));
+    check("counting W to its own form", refuses(counting, MACAROOSH_COUNTING, sizeof w, 31, 0));
+    check("plain W to its own form", refuses(plain, MACAROOSH_PLAIN, sizeof w, 31, 0));
+    check("no form 3", refuses(w, 3, sizeof w, 31, 0));
+    check("no form 257", refuses(w, 0x101, sizeof w, 31, 0));
+    check("no form 2^32 + 1", refuses(w, UINT64_C(0x100000001), sizeof w, 31, 0));
+    check("no form 2^64 - 1", refuses(w, UINT64_MAX, sizeof w, 31, 0));
+    check("its own form before too few bytes", refuses(w, MACAROOSH_MESSAGE, 30, 31, 0));
+    check("too few bytes for plain form", refuses(w, MACAROOSH_PLAIN, 30, 30, 0));
+    memcpy(start, w, sizeof w);
+    start[1] = 2;
+    check("a start before its own form", refuses(start, MACAROOSH_MESSAGE, sizeof w, 14, 1));
+    memcpy(twice, w, sizeof w);
+    twice[22] = 0;
+    check("a step in the end", refuses(twice, MACAROOSH_PLAIN, sizeof w, 24, 4));
 }
 
 static void first_steps(void) {
@@ -78,6 +142,7 @@ static void first_steps(void) {
     check("a step is possible after W", macaroosh_refusal(step) == 0 && macaroosh_step_given(step));
     check("it is 00 04 00 00", macaroosh_step_board(step) == 0 && macaroosh_step_rule(step) == 4 &&
                                    macaroosh_step_type(step) == 0 && macaroosh_step_source(step) == 0);
+    check("the same after W in plain form", macaroosh_first_step(plain, sizeof plain, echo, sizeof echo) == step);
     step = macaroosh_first_step(quiet, sizeof quiet, echo, sizeof echo);
     check("none where boards only wait", macaroosh_refusal(step) == 0 && !macaroosh_step_given(step));
 }
@@ -139,6 +204,7 @@ static void refusals(void) {
 int main(void) {
     runs();
     translations();
+    forms();
     first_steps();
     drawings();
     refusals();

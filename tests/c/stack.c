@@ -1,6 +1,6 @@
 /* The deepest stack of each exported call, its return address included: each is called on a painted stack of its own, on
- * schedule W in both forms or the echo table and its drawing, and the lowest byte that lost its paint is looked up. Prints
- * 'NAME BYTES'. */
+ * schedule W in each form and for each form asked for, or the echo table and its drawing, and the lowest byte that lost its
+ * paint is looked up. Prints 'NAME BYTES'. */
 #define _XOPEN_SOURCE 600
 #include "macaroosh.h"
 
@@ -15,7 +15,7 @@ static const uint8_t echo[] = {
     0x01, 0x00, 0x03, 0x01, 0xFF, 0x00, 0x01, 0x02, 0x00, 0x00, 0x00, 0x02, 0x02, 0x00, 0x00, 0x00, 0x02,
     0x03, 0x01, 0xFF, 0x00, 0x03, 0x03, 0x00, 0x00, 0x00, 0x2B, 0x00, 0x23, 0x00, 0x04, 0x07, 0x01, 0x03,
 };
-static const uint8_t forms[2][31] = {
+static const uint8_t forms[3][31] = {
     {
         0x01, 0x01, 0x01, 0x00, 0x03, 0xFF, 0xFF, 0x01, 0x03, 0xFF, 0xFF, 0x02, 0x03, 0x00, 0x00, 0x02,
         0x04, 0x00, 0x03, 0x02, 0x05, 0x00, 0x01, 0x14, 0x00, 0x17, 0x00, 0x04, 0x01, 0x01, 0x00,
@@ -24,12 +24,17 @@ static const uint8_t forms[2][31] = {
         0x01, 0x01, 0x01, 0x00, 0x03, 0xFF, 0xFF, 0x01, 0x03, 0xFF, 0xFF, 0x02, 0x03, 0x00, 0x00, 0x02,
         0x04, 0x00, 0x01, 0x02, 0x05, 0x00, 0x00, 0x14, 0x00, 0x17, 0x00, 0x04, 0x01, 0x01, 0x01,
     },
+    {
+        0x01, 0x01, 0x01, 0x00, 0x03, 0xFF, 0xFF, 0x01, 0x03, 0xFF, 0xFF, 0x02, 0x03, 0x00, 0x00, 0x02,
+        0x04, 0x00, 0x00, 0x02, 0x05, 0x00, 0x00, 0x14, 0x00, 0x17, 0x00, 0x04, 0x01, 0x01, 0x02,
+    },
 };
 
 static uint8_t stack[1 << 16], out[31], text[MACAROOSH_MOST_DRAWING], table[MACAROOSH_MOST_TABLE];
 static size_t text_length;
 static uint64_t words[MACAROOSH_MOST_WORDS];
 static const uint8_t *w;
+static uint64_t asked;
 static ucontext_t here, there;
 
 /* Takes what a call takes at least, its return address; called by a pointer, so that it is called as the others are. */
@@ -41,6 +46,7 @@ static volatile uint64_t answer;
 static void nothing(void) { answer = least(); }
 static void run(void) { answer = macaroosh_run(w, 31, echo, sizeof echo, words, MACAROOSH_MOST_WORDS); }
 static void translate(void) { answer = macaroosh_translate(w, 31, echo, sizeof echo, out, sizeof out); }
+static void translate_to(void) { answer = macaroosh_translate_to(w, 31, echo, sizeof echo, asked, out, sizeof out); }
 static void first_step(void) { answer = macaroosh_first_step(w, 31, echo, sizeof echo); }
 static void draw(void) { answer = macaroosh_draw(echo, sizeof echo, text, sizeof text); }
 static void undraw(void) { answer = macaroosh_undraw(text, text_length, table, sizeof table); }
@@ -61,11 +67,12 @@ static size_t taken(void (*call)(void)) {
 
 static void measure(const char *name, void (*call)(void)) {
     size_t base = taken(nothing), most = 0, form;
-    for (form = 0; form < 2; form++) {
-        size_t bytes;
+    for (form = 0; form < 3; form++) {
         w = forms[form];
-        bytes = taken(call) - base + sizeof(void *);
-        if (bytes > most) most = bytes;
+        for (asked = 0; asked < 3; asked++) {
+            size_t bytes = taken(call) - base + sizeof(void *);
+            if (bytes > most) most = bytes;
+        }
     }
     printf("%s %u\n", name, (unsigned)most);
 }
@@ -73,6 +80,7 @@ static void measure(const char *name, void (*call)(void)) {
 int main(void) {
     measure("macaroosh_run", run);
     measure("macaroosh_translate", translate);
+    measure("macaroosh_translate_to", translate_to);
     measure("macaroosh_first_step", first_step);
     measure("macaroosh_draw", draw);
     text_length = macaroosh_count(answer);

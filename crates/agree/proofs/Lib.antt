@@ -1,3 +1,4 @@
-pub mod Senders
+pub mod Columns
+pub mod Sound
 pub mod Agree
 pub mod Runs

@@ -1,30 +1,32 @@
--- The agreement of the two forms for schedules: the picture, the start, and the words after each number of steps.
-use mathlib.Core.Path.{_≡_, refl, sym, ap, ap₂, _∙_}
-use mathlib.Core.Bool.{false, true≢false}
+-- The agreement of neighbouring forms for schedules: the picture, the start, and the words after each number of steps; and from there
+-- that of all forms.
+use mathlib.Core.Path.{_≡_, refl, sym, ap, ap₂, _∙_, subst⁻¹}
+use mathlib.Core.Bool.{false}
 use mathlib.Core.List.{List, [], _∷_, map}
-use Prim.Native.Nat.{ℕ, zero, suc, _<_}
-use native.Mathlib.Decide.{ℕ-discrete}
+use Prim.Native.Nat.{ℕ, zero, suc, _+_, _-_, _≤_, _<_}
+use native.Mathlib.Decide.{ℕ-discrete, decLt}
+use native.Mathlib.Omega.{arith}
 use lib.ListN.{length, getD}
-use Rattle.senders.specs.Set.{mem}
-use Rattle.senders.proofs.SetLaws.{set-laws, count-laws}
 use Rattle.paper.specs.Paper.{Design, Step}
 use Rattle.paper.specs.Words.{state, start}
 use Rattle.paper.specs.Form.{wide}
-use Rattle.paper.specs.Step.{rcvdOf, sentOf, stepFault, stepped}
+use Rattle.paper.specs.Step.{columnOf, rcvdOf, sentOf, view, stepFault, stepped}
 use Rattle.paper.specs.Run.{Ran, run, after}
 use Rattle.paper.proofs.WordLaws.{start-low, length-start, cell-start, sent-start, same-words}
 use Rattle.paper.proofs.FormLaws.{coll-inj, shown-inj, coll-init, shown-init}
 use Rattle.paper.proofs.RunLaws.{run-goes, run-stops, after-goes}
-use Rattle.agree.specs.Translation.{tagged, lowest, lowAll}
-use Rattle.agree.specs.Picture.{Kept, counted, countedSent, Pictured}
-use Rattle.agree.specs.Agreement.{OnePicture, RunThere, RunBack}
+use Rattle.agree.specs.Translation.{tagBy, tagged, lowest, lowAll, coarser, finer, moved}
+use Rattle.agree.specs.Picture.{Kept, pictureOf, Sound, Pictured}
+use Rattle.agree.specs.Agreement.{OnePicture, RunThere, RunBack, InAllForms}
+use Rattle.agree.proofs.Columns.{picture-laws}
+use Rattle.agree.proofs.Sound.{start-sound}
 use Rattle.agree.proofs.Agree.{forward, backward}
 
-pub one-picture : (d : Design) → OnePicture d
-one-picture d w v v′ X Y =
-    same-words (d .boards) (d .types) (wide 1) v v′ (X .counts-long) (Y .counts-long) (λ p h. X .states p h ∙ sym (Y .states p h))
-    (λ p m i hp hm hi. coll-inj 1 (d .boards) (d .faulty) _ _ (X .rcvds p m hp hm ∙ sym (Y .rcvds p m hp hm)) i hi)
-    (λ m hm. shown-inj 1 (d .boards) (d .faulty) _ _ (X .sents m hm ∙ sym (Y .sents m hm)))
+pub one-picture : (j : ℕ) (d : Design) → OnePicture j d
+one-picture j d w v v′ X Y =
+    same-words (d .boards) (d .types) (wide (suc j)) v v′ (X .coarse-long) (Y .coarse-long) (λ p h. X .states p h ∙ sym (Y .states p h))
+    (λ p m i hp hm hi. coll-inj (suc j) (d .boards) (d .faulty) _ _ (X .rcvds p m hp hm ∙ sym (Y .rcvds p m hp hm)) i hi)
+    (λ m hm. shown-inj (suc j) (d .boards) (d .faulty) _ _ (X .sents m hm ∙ sym (Y .sents m hm)))
 
 -- ---- the start
 module _ (d : Design) (starts : List ℕ) (l : length starts ≡ d .boards) where
@@ -35,42 +37,29 @@ module _ (d : Design) (starts : List ℕ) (l : length starts ≡ d .boards) wher
   unfolding state
   state-start k p h = start-low (d .boards) (d .types) (wide k) starts l p h
 
-  module _ (p m : ℕ) where
-    no-sets : rcvdOf 0 d (begin 0) p m ≡ 0
-    no-sets = coll-init 0 (d .boards) (d .faulty) _ (cell-start (d .boards) (d .types) (wide 0) starts l p m)
+  none-received : (k p m : ℕ) → rcvdOf k d (begin k) p m ≡ columnOf k d .init
+  none-received k p m = coll-init k (d .boards) (d .faulty) _ (cell-start (d .boards) (d .types) (wide k) starts l p m)
 
-    no-counts : rcvdOf 1 d (begin 1) p m ≡ record { correct = 0; faulty = 0 }
-    no-counts = coll-init 1 (d .boards) (d .faulty) _ (cell-start (d .boards) (d .types) (wide 1) starts l p m)
+  none-sent : (k m : ℕ) → sentOf k d (begin k) m ≡ columnOf k d .init
+  none-sent k m = shown-init k (d .boards) (d .faulty) _ (sent-start (d .boards) (d .types) (wide k) starts l m)
 
-  module _ (m : ℕ) where
-    none-sent : sentOf 0 d (begin 0) m ≡ 0
-    none-sent = shown-init 0 (d .boards) (d .faulty) _ (sent-start (d .boards) (d .types) (wide 0) starts l m)
+  module _ (quiet : (p m : ℕ) → p < d .boards → m < d .types → d .hasSent (getD starts p 0) m ≡ false) where
+    pub sound-start : (k : ℕ) → Sound k d (view k d (start (d .types) (wide k) starts))
+    sound-start k =
+        start-sound d k (view k d (begin k)) (λ p m hp hm. ap (λ (ℓ : ℕ). d .hasSent ℓ m) (state-start k p hp) ∙ quiet p m hp hm)
+        (λ p m hp hm. none-received k p m) (λ m hm. none-sent k m)
 
-    none-counted : sentOf 1 d (begin 1) m ≡ record { correct = 0; faulty = 0 }
-    none-counted = shown-init 1 (d .boards) (d .faulty) _ (sent-start (d .boards) (d .types) (wide 1) starts l m)
-
-  none-in : (S : ℕ) → S ≡ 0 → (q : ℕ) → mem S q ≡ false
-  none-in S e q = rw e (set-laws .empty q)
-
-  empty-counted : counted d 0 ≡ record { correct = 0; faulty = 0 }
-  empty-counted = let N = count-laws (d .boards) (d .faulty) in λ i. record { correct = N .empty-correct i; faulty = N .empty-faulty i }
-
-  empty-sent : countedSent d 0 ≡ record { correct = 0; faulty = 0 }
-  empty-sent = let N = count-laws (d .boards) (d .faulty) in λ i. record { correct = N .empty-correct i; faulty = 0 }
-
-  pub start-pictured : ((p m : ℕ) → p < d .boards → m < d .types → d .hasSent (getD starts p 0) m ≡ false)
-      → Pictured d (start (d .types) (wide 0) starts) (start (d .types) (wide 1) starts)
-  start-pictured quiet = record {
-    sets-long = length-start (d .boards) (d .types) (wide 0) starts l;
-    counts-long = length-start (d .boards) (d .types) (wide 1) starts l;
-    states = λ p h. state-start 1 p h ∙ sym (state-start 0 p h);
-    rcvds = λ p m hp hm. no-counts p m ∙ sym empty-counted ∙ ap (counted d) (sym (no-sets p m));
-    sents = λ m hm. none-counted m ∙ sym empty-sent ∙ ap (countedSent d) (sym (none-sent m));
-    sent-correct = λ m q hm h. none-in _ (none-sent m) q;
-    rcvd-sent = λ p m q hp hm hq t. absurd (true≢false (sym t ∙ none-in _ (no-sets p m) q));
-    rcvd-known = λ p m q hp hm h. none-in _ (no-sets p m) q;
-    own = λ p m hp hm. none-in _ (none-sent m) p ∙ sym (ap (λ (ℓ : ℕ). d .hasSent ℓ m) (state-start 0 p hp) ∙ quiet p m hp hm);
-  }
+    pub start-pictured : (j : ℕ) → Pictured j d (start (d .types) (wide j) starts) (start (d .types) (wide (suc j)) starts)
+    start-pictured j =
+        let e = picture-laws (d .boards) (d .faulty) j .none in
+        record {
+          fine-long = length-start (d .boards) (d .types) (wide j) starts l;
+          coarse-long = length-start (d .boards) (d .types) (wide (suc j)) starts l;
+          states = λ p h. state-start (suc j) p h ∙ sym (state-start j p h);
+          rcvds = λ p m hp hm. none-received (suc j) p m ∙ sym e ∙ ap (pictureOf j d) (sym (none-received j p m));
+          sents = λ m hm. none-sent (suc j) m ∙ sym e ∙ ap (pictureOf j d) (sym (none-sent j m));
+          sound = sound-start j;
+        }
 
 -- ---- a run that is not refused, step by step
 module _ (k : ℕ) (d : Design) (w : List ℕ) (s : Step) (ss : List Step) where
@@ -88,50 +77,140 @@ module _ (k : ℕ) (d : Design) (w : List ℕ) (s : Step) (ss : List Step) where
   goes-made : stepFault k d w s ≡ 0 → run k d (stepped k d w s) ss .refusal ≡ 0 → run k d w (s ∷ ss) .refusal ≡ 0
   goes-made z h = ap (λ (r : Ran). r .refusal) (run-goes k d w s ss z) ∙ h
 
--- ---- schedules
-module _ (d : Design) (K : Kept d) where
-  pub forward-run : (w v : List ℕ) (ss : List Step) → Pictured d w v → run 0 d w ss .refusal ≡ 0 → RunThere d w v ss
+-- ---- schedules, of neighbouring forms
+module _ (j : ℕ) (d : Design) (K : Kept d) where
+  -- the words after each number of steps, from those after the first
+  pictured-on : (w v : List ℕ) (s t : Step) (ss ts : List Step) → Pictured j d w v → stepFault j d w s ≡ 0 → stepFault (suc j) d v t ≡ 0
+      → ((i : ℕ) → Pictured j d (after j d (stepped j d w s) ss i) (after (suc j) d (stepped (suc j) d v t) ts i))
+      → (i : ℕ) → Pictured j d (after j d w (s ∷ ss) i) (after (suc j) d v (t ∷ ts) i)
   unfolding run
-  forward-run w v [] X h = record { accepted = refl; pictured = each }
-    where
-      each : (i : ℕ) → Pictured d (after 0 d w [] i) (after 1 d v [] i)
-      each zero = X
-      each (suc i) = X
+  pictured-on w v s t ss ts X a b ih zero = X
+  pictured-on w v s t ss ts X a b ih (suc i) = rw (after-goes j d w s ss a i, after-goes (suc j) d v t ts b i) (ih i)
+
+  pictured-none : (w v : List ℕ) → Pictured j d w v → (i : ℕ) → Pictured j d (after j d w [] i) (after (suc j) d v [] i)
+  unfolding run
+  pictured-none w v X zero = X
+  pictured-none w v X (suc i) = X
+
+  pub forward-run : (w v : List ℕ) (ss : List Step) → Pictured j d w v → run j d w ss .refusal ≡ 0 → RunThere j d w v ss
+  unfolding run
+  forward-run w v [] X h = record { accepted = refl; pictured = pictured-none w v X }
   forward-run w v (s ∷ ss) X h =
-      let g = goes 0 d w s ss h in
-      let S = forward d K w v X s (g .first) in
-      let R = forward-run (stepped 0 d w s) (stepped 1 d v (tagged d s)) ss (S .pictured) (g .rest) in
-      record { accepted = goes-made 1 d v (tagged d s) (map (tagged d) ss) (S .accepted) (R .accepted); pictured = each (g .first) (S .accepted) (R .pictured) }
-    where
-      each : stepFault 0 d w s ≡ 0 → stepFault 1 d v (tagged d s) ≡ 0
-          → ((i : ℕ) → Pictured d (after 0 d (stepped 0 d w s) ss i) (after 1 d (stepped 1 d v (tagged d s)) (map (tagged d) ss) i))
-          → (i : ℕ) → Pictured d (after 0 d w (s ∷ ss) i) (after 1 d v (tagged d s ∷ map (tagged d) ss) i)
-      each a b ih zero = X
-      each a b ih (suc i) = rw (after-goes 0 d w s ss a i, after-goes 1 d v (tagged d s) (map (tagged d) ss) b i) (ih i)
-
-  pub backward-run : (w v : List ℕ) (ss : List Step) → Pictured d w v → run 1 d v ss .refusal ≡ 0 → RunBack d w v ss
-  unfolding run lowAll
-  backward-run w v [] X h = record { accepted = refl; trip = refl; pictured = each }
-    where
-      each : (i : ℕ) → Pictured d (after 0 d w [] i) (after 1 d v [] i)
-      each zero = X
-      each (suc i) = X
-  backward-run w v (s ∷ ss) X h =
-      let g = goes 1 d v s ss h in
-      let S = backward d K w v X s (g .first) in
-      let l = lowest d w s in
-      let R = backward-run (stepped 0 d w l) (stepped 1 d v s) ss (S .pictured) (g .rest) in
+      let g = goes j d w s ss h in
+      let S = forward j d K w v X s (g .first) in
+      let t = tagged j d s in
+      let R = forward-run (stepped j d w s) (stepped (suc j) d v t) ss (S .pictured) (g .rest) in
       record {
-        accepted = goes-made 0 d w l (lowAll d (stepped 0 d w l) ss) (S .accepted) (R .accepted);
-        trip = ap₂ (λ (x : Step) (xs : List Step). x ∷ xs) (S .trip) (R .trip);
-        pictured = each (S .accepted) (g .first) (R .pictured);
+        accepted = goes-made (suc j) d v t (map (tagged j d) ss) (S .accepted) (R .accepted);
+        pictured = pictured-on w v s t ss (map (tagged j d) ss) X (g .first) (S .accepted) (R .pictured);
       }
-    where
-      u : List ℕ
-      u = stepped 0 d w (lowest d w s)
 
-      each : stepFault 0 d w (lowest d w s) ≡ 0 → stepFault 1 d v s ≡ 0
-          → ((i : ℕ) → Pictured d (after 0 d u (lowAll d u ss) i) (after 1 d (stepped 1 d v s) ss i))
-          → (i : ℕ) → Pictured d (after 0 d w (lowest d w s ∷ lowAll d u ss) i) (after 1 d v (s ∷ ss) i)
-      each a b ih zero = X
-      each a b ih (suc i) = rw (after-goes 0 d w (lowest d w s) (lowAll d u ss) a i, after-goes 1 d v s ss b i) (ih i)
+  pub backward-run : (w v : List ℕ) (ss : List Step) → Pictured j d w v → run (suc j) d v ss .refusal ≡ 0 → RunBack j d w v ss
+  unfolding run lowAll
+  backward-run w v [] X h = record { accepted = refl; trip = refl; pictured = pictured-none w v X }
+  backward-run w v (s ∷ ss) X h =
+      let g = goes (suc j) d v s ss h in
+      let S = backward j d K w v X s (g .first) in
+      let l = lowest j d w s in
+      let R = backward-run (stepped j d w l) (stepped (suc j) d v s) ss (S .pictured) (g .rest) in
+      record {
+        accepted = goes-made j d w l (lowAll j d (stepped j d w l) ss) (S .accepted) (R .accepted);
+        trip = ap₂ (λ (x : Step) (xs : List Step). x ∷ xs) (S .trip) (R .trip);
+        pictured = pictured-on w v l s (lowAll j d (stepped j d w l) ss) ss X (S .accepted) (g .first) (R .pictured);
+      }
+
+-- ---- between any two forms: one form further up, and one further down
+module _ (d : Design) (begin : ℕ → List ℕ) (k : ℕ) (ss : List Step) where
+  abbrev in-form : ℕ → List Step
+  in-form i = moved k i d begin ss
+
+  -- above its own form a schedule is only tagged, below it only refined
+  pub coarser-only : (i : ℕ) → k ≤ i → in-form i ≡ coarser (i - k) k (d .boards) ss
+  unfolding moved finer
+  coarser-only i h = let e : k - i ≡ 0 = omega arith in rw e
+
+  pub finer-only : (i : ℕ) → i ≤ k → in-form i ≡ finer (k - i) i d begin ss
+  unfolding moved coarser
+  finer-only i h = let e : i - k ≡ 0 = omega arith in rw e
+
+  pub moved-own : in-form k ≡ ss
+  unfolding finer
+  moved-own = let e : k - k ≡ 0 = omega arith in finer-only k (omega arith) ∙ rw e
+
+  pub moved-up : (i : ℕ) → k ≤ i → in-form (suc i) ≡ map (tagged i d) (in-form i)
+  unfolding coarser
+  moved-up i h =
+      let e : suc i - k ≡ suc (i - k) = omega arith in
+      let f : i - k + k ≡ i = omega arith in
+      coarser-only (suc i) (omega arith) ∙ ap (λ (n : ℕ). coarser n k (d .boards) ss) e
+      ∙ ap₂ (λ (j : ℕ) (x : List Step). map (tagBy j (d .boards)) x) f (sym (coarser-only i h))
+
+  pub moved-down : (i : ℕ) → i < k → in-form i ≡ lowAll i d (begin i) (in-form (suc i))
+  unfolding finer
+  moved-down i h =
+      let e : k - i ≡ suc (k - suc i) = omega arith in
+      finer-only i (omega arith) ∙ ap (λ (n : ℕ). finer n i d begin ss) e ∙ ap (lowAll i d (begin i)) (sym (finer-only (suc i) h))
+
+module _ (d : Design) (K : Kept d) (begin : ℕ → List ℕ) (B : (j : ℕ) → Pictured j d (begin j) (begin (suc j))) (k : ℕ) (ss : List Step) (h : run k d (begin k) ss .refusal ≡ 0) where
+  abbrev new : ℕ → List Step
+  new i = moved k i d begin ss
+
+  abbrev Runs : ℕ → Type 0
+  Runs i = run i d (begin i) (new i) .refusal ≡ 0
+
+  runs-own : Runs k
+  runs-own = ap (λ (x : List Step). run k d (begin k) x .refusal) (moved-own d begin k ss) ∙ h
+
+  -- n forms up, and n forms down
+  runs-up : (n i : ℕ) → i ≡ n + k → Runs i
+  runs-up zero i e = let z : i ≡ k = omega arith in subst⁻¹ Runs z runs-own
+  runs-up (suc n) zero e = absurd (omega arith)
+  runs-up (suc n) (suc i) e =
+      ap (λ (x : List Step). run (suc i) d (begin (suc i)) x .refusal) (moved-up d begin k ss i (omega arith))
+      ∙ forward-run i d K (begin i) (begin (suc i)) (new i) (B i) (runs-up n i (omega arith)) .accepted
+
+  runs-down : (n i : ℕ) → n + i ≡ k → Runs i
+  runs-down zero i e = let z : i ≡ k = omega arith in subst⁻¹ Runs z runs-own
+  runs-down (suc n) i e =
+      ap (λ (x : List Step). run i d (begin i) x .refusal) (moved-down d begin k ss i (omega arith))
+      ∙ backward-run i d K (begin i) (begin (suc i)) (new (suc i)) (B i) (runs-down n (suc i) (omega arith)) .accepted
+
+  runs-all : (i : ℕ) → Runs i
+  runs-all i = go (decLt i k)
+    where
+      go : Dec (i < k) → Runs i
+      go (yes l) = runs-down (k - i) i (omega arith)
+      go (no l) = runs-up (i - k) i (omega arith)
+
+  abbrev Alike : ℕ → List Step → List Step → Type 0
+  Alike i x y = (n : ℕ) → Pictured i d (after i d (begin i) x n) (after (suc i) d (begin (suc i)) y n)
+
+  pictured-all : (i : ℕ) → Alike i (new i) (new (suc i))
+  pictured-all i = go (decLt i k)
+    where
+      go : Dec (i < k) → Alike i (new i) (new (suc i))
+      go (yes l) = subst⁻¹ (λ (x : List Step). Alike i x (new (suc i))) (moved-down d begin k ss i l) (backward-run i d K (begin i) (begin (suc i)) (new (suc i)) (B i) (runs-all (suc i)) .pictured)
+      go (no l) = subst⁻¹ (Alike i (new i)) (moved-up d begin k ss i (omega arith)) (forward-run i d K (begin i) (begin (suc i)) (new i) (B i) (runs-all i) .pictured)
+
+  -- tagged again, what was refined comes back, form by form
+  back-up : (i n x : ℕ) → x ≡ n + i → x ≤ k → coarser n i (d .boards) (new i) ≡ new x
+  unfolding coarser
+  back-up i zero x e l = let z : i ≡ x = omega arith in ap new z
+  back-up i (suc n) zero e l = absurd (omega arith)
+  back-up i (suc n) (suc x) e l =
+      let z : n + i ≡ x = omega arith in
+      ap₂ (λ (j : ℕ) (y : List Step). map (tagged j d) y) z (back-up i n x (omega arith) (omega arith) ∙ moved-down d begin k ss x l)
+      ∙ backward-run x d K (begin x) (begin (suc x)) (new (suc x)) (B x) (runs-all (suc x)) .trip
+
+  back : (i : ℕ) → i ≤ k → moved i k d begin (new i) ≡ ss
+  back i l = coarser-only d begin i (new i) k l ∙ back-up i (k - i) k (omega arith) (omega arith) ∙ moved-own d begin k ss
+
+  pub all-forms : InAllForms d begin k ss
+  all-forms = record {
+    own = moved-own d begin k ss;
+    up = moved-up d begin k ss;
+    down = moved-down d begin k ss;
+    runs = runs-all;
+    pictured = pictured-all;
+    back = back;
+  }

@@ -1,36 +1,48 @@
--- The agreement of the two forms, for a step and for a schedule, from words w and v that are pictured. The proofs are in
--- proofs/Agree.antt and proofs/Runs.antt.
+-- The agreement of two neighbouring forms, for a step and for a schedule, from words w of form j and v of form j + 1 that are
+-- pictured; and of all forms, for a schedule of any of them. The proofs are in proofs/Agree.antt and proofs/Runs.antt.
 use mathlib.Core.Path.{_≡_}
 use mathlib.Core.List.{List, map}
-use Prim.Native.Nat.{ℕ}
+use Prim.Native.Nat.{ℕ, suc, _≤_, _<_}
 use Rattle.paper.specs.Paper.{Design, Step}
 use Rattle.paper.specs.Step.{stepFault, stepped}
 use Rattle.paper.specs.Run.{run, after}
-use Rattle.agree.specs.Translation.{tagged, lowest, lowAll}
+use Rattle.agree.specs.Translation.{tagged, lowest, lowAll, moved}
 use Rattle.agree.specs.Picture.{Pictured}
 
--- ---- the picture: words of sets have one only
-abbrev pub OnePicture : Design → Type 0
-OnePicture d = (w v v′ : List ℕ) → Pictured d w v → Pictured d w v′ → v ≡ v′
+-- ---- the picture: words have one only
+abbrev pub OnePicture : ℕ → Design → Type 0
+OnePicture j d = (w v v′ : List ℕ) → Pictured j d w v → Pictured j d w v′ → v ≡ v′
 
 -- ---- one step
 -- the tagged step is accepted, and leads to the picture
-pub record StepThere (d : Design) (w v : List ℕ) (s : Step) : Type 0 where
-  pub accepted : stepFault 1 d v (tagged d s) ≡ 0
-  pub pictured : Pictured d (stepped 0 d w s) (stepped 1 d v (tagged d s))
+pub record StepThere (j : ℕ) (d : Design) (w v : List ℕ) (s : Step) : Type 0 where
+  pub accepted : stepFault (suc j) d v (tagged j d s) ≡ 0
+  pub pictured : Pictured j d (stepped j d w s) (stepped (suc j) d v (tagged j d s))
 
--- the step with the lowest sender is accepted, is the step itself when it is tagged, and leads to what is pictured
-pub record StepBack (d : Design) (w v : List ℕ) (s : Step) : Type 0 where
-  pub accepted : stepFault 0 d w (lowest d w s) ≡ 0
-  pub trip : tagged d (lowest d w s) ≡ s
-  pub pictured : Pictured d (stepped 0 d w (lowest d w s)) (stepped 1 d v s)
+-- the step with the lowest source is accepted, is the step itself when it is tagged, and leads to what is pictured
+pub record StepBack (j : ℕ) (d : Design) (w v : List ℕ) (s : Step) : Type 0 where
+  pub accepted : stepFault j d w (lowest j d w s) ≡ 0
+  pub trip : tagged j d (lowest j d w s) ≡ s
+  pub pictured : Pictured j d (stepped j d w (lowest j d w s)) (stepped (suc j) d v s)
 
 -- ---- a schedule, and its words after each number of steps
-pub record RunThere (d : Design) (w v : List ℕ) (ss : List Step) : Type 0 where
-  pub accepted : run 1 d v (map (tagged d) ss) .refusal ≡ 0
-  pub pictured : (i : ℕ) → Pictured d (after 0 d w ss i) (after 1 d v (map (tagged d) ss) i)
+pub record RunThere (j : ℕ) (d : Design) (w v : List ℕ) (ss : List Step) : Type 0 where
+  pub accepted : run (suc j) d v (map (tagged j d) ss) .refusal ≡ 0
+  pub pictured : (i : ℕ) → Pictured j d (after j d w ss i) (after (suc j) d v (map (tagged j d) ss) i)
 
-pub record RunBack (d : Design) (w v : List ℕ) (ss : List Step) : Type 0 where
-  pub accepted : run 0 d w (lowAll d w ss) .refusal ≡ 0
-  pub trip : map (tagged d) (lowAll d w ss) ≡ ss
-  pub pictured : (i : ℕ) → Pictured d (after 0 d w (lowAll d w ss) i) (after 1 d v ss i)
+pub record RunBack (j : ℕ) (d : Design) (w v : List ℕ) (ss : List Step) : Type 0 where
+  pub accepted : run j d w (lowAll j d w ss) .refusal ≡ 0
+  pub trip : map (tagged j d) (lowAll j d w ss) ≡ ss
+  pub pictured : (i : ℕ) → Pictured j d (after j d w (lowAll j d w ss) i) (after (suc j) d v ss i)
+
+-- ---- a schedule of form k that runs from `begin k`, in all forms
+pub record InAllForms (d : Design) (begin : ℕ → List ℕ) (k : ℕ) (ss : List Step) : Type 0 where
+  -- its translation to its own form is itself; to a coarser form it is tagged once more; to a finer one it takes the lowest sources
+  pub own : moved k k d begin ss ≡ ss
+  pub up : (i : ℕ) → k ≤ i → moved k (suc i) d begin ss ≡ map (tagged i d) (moved k i d begin ss)
+  pub down : (i : ℕ) → i < k → moved k i d begin ss ≡ lowAll i d (begin i) (moved k (suc i) d begin ss)
+  -- it runs in every form, and after every number of steps the words of neighbouring forms are pictured
+  pub runs : (i : ℕ) → run i d (begin i) (moved k i d begin ss) .refusal ≡ 0
+  pub pictured : (i n : ℕ) → Pictured i d (after i d (begin i) (moved k i d begin ss) n) (after (suc i) d (begin (suc i)) (moved k (suc i) d begin ss) n)
+  -- to a finer form and back: the same steps
+  pub back : (i : ℕ) → i ≤ k → moved i k d begin (moved k i d begin ss) ≡ ss

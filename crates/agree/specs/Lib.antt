@@ -1,3 +1,4 @@
 pub mod Translation
 pub mod Picture
+pub mod Laws
 pub mod Agreement

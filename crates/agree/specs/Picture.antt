@@ -1,41 +1,57 @@
--- The paper's Definition 3.3, on words: the words v of a counting configuration are the count picture of the words w of a
--- message configuration.
+-- The paper's Definition 3.3, on words, for two neighbouring forms: the words v of form j + 1 are the picture of the words w of form j.
+-- From sets to two counts it is the paper's own; from two counts to one it is the same with their sum (Q-4).
 use mathlib.Core.Path.{_≡_}
 use mathlib.Core.Bool.{true, false}
 use mathlib.Core.List.{List}
-use Prim.Native.Nat.{ℕ, _+_, _≤_, _<_}
+use Prim.Native.Nat.{ℕ, zero, suc, _+_, _≤_, _<_}
 use lib.ListN.{length}
 use Rattle.senders.specs.Set.{mem, correctCount, faultyCount}
-use Rattle.paper.specs.Paper.{Design, Counts}
+use Rattle.paper.specs.Paper.{Design, Conf, column}
 use Rattle.paper.specs.Words.{size, state}
 use Rattle.paper.specs.Form.{wide}
-use Rattle.paper.specs.Step.{rcvdOf, sentOf}
+use Rattle.paper.specs.Step.{columnOf, rcvdOf, sentOf, view}
 
 -- what an accepted table gives: 255 is no type, and a rule forgets nothing that was sent
 pub record Kept (d : Design) : Type 0 where
   pub few : d .types ≤ 255
   pub keeps : (r m : ℕ) → r < d .rules → m < d .types → d .hasSent (d .from r) m ≡ true → d .hasSent (d .to r) m ≡ true
 
--- the counts of a set that was received, and of one that was sent
-abbrev pub counted : Design → ℕ → Counts
-counted d M = record { correct = correctCount (d .boards) M; faulty = faultyCount (d .boards) (d .faulty) M }
+-- the picture of a collection: of a set, how many of it are correct and how many faulty; of two counts, their sum
+abbrev pub picture : (j C f : ℕ) → column j C f .Coll → column (suc j) C f .Coll
+picture zero C f M = record { correct = correctCount C M; faulty = faultyCount C f M }
+picture (suc zero) C f c = c .correct + c .faulty
+picture (suc (suc j)) C f c = c
 
-abbrev pub countedSent : Design → ℕ → Counts
-countedSent d S = record { correct = correctCount (d .boards) S; faulty = 0 }
+abbrev pub pictureOf : (j : ℕ) (d : Design) → columnOf j d .Coll → columnOf (suc j) d .Coll
+pictureOf j d M = picture j (d .boards) (d .faulty) M
 
-pub record Pictured (d : Design) (w v : List ℕ) : Type 0 where
-  pub sets-long : length w ≡ size (d .boards) (d .types) (wide 0)
-  pub counts-long : length v ≡ size (d .boards) (d .types) (wide 1)
+-- ---- what a form keeps, whatever steps are accepted
+-- of what was received of a type, against what was sent of it: what came from correct processes was sent, and the rest is from faulty
+-- ones (point 7); so by number, where none that is faulty was sent (point 5); and for the plain count by their sum
+abbrev pub Within : (k C f : ℕ) → column k C f .Coll → column k C f .Coll → Type 0
+Within zero C f M S = ((q : ℕ) → q < C → mem M q ≡ true → mem S q ≡ true) × ((q : ℕ) → C + f ≤ q → mem M q ≡ false)
+Within (suc zero) C f c c′ = (c .correct ≤ c′ .correct) × (c .faulty ≤ f) × (c′ .faulty ≡ 0)
+Within (suc (suc k)) C f c c′ = c ≤ c′ + f
+
+-- of what was sent of a type m, which only sets tell: only correct processes have sent (point 6), and who has is told by its control
+-- state (point 8)
+abbrev pub Told : (k : ℕ) (d : Design) → Conf (columnOf k d .Coll) → ℕ → Type 0
+Told zero d σ m = ((q : ℕ) → d .boards ≤ q → mem (σ .sent m) q ≡ false) × ((p : ℕ) → p < d .boards → mem (σ .sent m) p ≡ d .hasSent (σ .pc p) m)
+Told (suc k) d σ m = Unit {0}
+
+pub record Sound (k : ℕ) (d : Design) (σ : Conf (columnOf k d .Coll)) : Type 0 where
+  pub within : (p m : ℕ) → p < d .boards → m < d .types → Within k (d .boards) (d .faulty) (σ .rcvd p m) (σ .sent m)
+  pub told : (m : ℕ) → m < d .types → Told k d σ m
+
+-- ---- the picture
+pub record Pictured (j : ℕ) (d : Design) (w v : List ℕ) : Type 0 where
+  pub fine-long : length w ≡ size (d .boards) (d .types) (wide j)
+  pub coarse-long : length v ≡ size (d .boards) (d .types) (wide (suc j))
   -- 1: the control states are the same
   pub states : (p : ℕ) → p < d .boards → state v p ≡ state w p
-  -- 2, 3: the received counts are those of the sets
-  pub rcvds : (p m : ℕ) → p < d .boards → m < d .types → rcvdOf 1 d v p m ≡ counted d (rcvdOf 0 d w p m)
-  -- 4, 5: so is the sent count; none is faulty
-  pub sents : (m : ℕ) → m < d .types → sentOf 1 d v m ≡ countedSent d (sentOf 0 d w m)
-  -- 6: only correct processes have sent
-  pub sent-correct : (m q : ℕ) → m < d .types → d .boards ≤ q → mem (sentOf 0 d w m) q ≡ false
-  -- 7: what was received from a correct process was sent, and the rest is from faulty ones
-  pub rcvd-sent : (p m q : ℕ) → p < d .boards → m < d .types → q < d .boards → mem (rcvdOf 0 d w p m) q ≡ true → mem (sentOf 0 d w m) q ≡ true
-  pub rcvd-known : (p m q : ℕ) → p < d .boards → m < d .types → d .boards + d .faulty ≤ q → mem (rcvdOf 0 d w p m) q ≡ false
-  -- 8: who has sent is told by its control state
-  pub own : (p m : ℕ) → p < d .boards → m < d .types → mem (sentOf 0 d w m) p ≡ d .hasSent (state w p) m
+  -- 2, 3: the received counts are those of the sets, or their sums
+  pub rcvds : (p m : ℕ) → p < d .boards → m < d .types → rcvdOf (suc j) d v p m ≡ pictureOf j d (rcvdOf j d w p m)
+  -- 4, 5: so are the sent ones, none of which is faulty
+  pub sents : (m : ℕ) → m < d .types → sentOf (suc j) d v m ≡ pictureOf j d (sentOf j d w m)
+  -- 6 to 8: what form j keeps
+  pub sound : Sound j d (view j d w)

@@ -57,7 +57,7 @@ admitted k b h =
     let q = or-none (outside 1 64 (nOf b) || nOf b atMost k * tOf b) _ (p .0) in
     let r = or-none (outside 1 64 (nOf b)) _ (q .0) in
     let n = inside 1 64 (nOf b) (r .0) in
-    record { some-board = n .0; few-boards = n .1; enough = leb-false _ _ (r .1); faulty = ltb-false _ _ (q .1); form = ltb-false 1 _ (p .1) }
+    record { some-board = n .0; few-boards = n .1; enough = leb-false _ _ (r .1); faulty = ltb-false _ _ (q .1); form = ltb-false 2 _ (p .1) }
 
 pub parted : {y : Bool} (b : List ℕ) → Trailed b → y ≡ stepsOff b → y ≡ false → Parted b
 unfolding stepsOff frontLength startsOf stepsOf

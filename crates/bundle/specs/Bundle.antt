@@ -22,7 +22,7 @@ tOf b = byteAt b (trailerOf b + 5)
 abbrev pub fOf : List ℕ → ℕ
 fOf b = byteAt b (trailerOf b + 6)
 
--- 0 message, 1 counting
+-- 0 message, 1 counting, 2 plain (Q-4)
 abbrev pub formOf : List ℕ → ℕ
 formOf b = byteAt b (trailerOf b + 7)
 

@@ -20,7 +20,7 @@ pub record Admitted (k : ℕ) (b : List ℕ) : Type 0 where
   pub few-boards : nOf b ≤ 64
   pub enough : k * tOf b < nOf b
   pub faulty : fOf b ≤ tOf b
-  pub form : formOf b ≤ 1
+  pub form : formOf b ≤ 2
 
 -- its parts (refusal 13)
 pub record Parted (b : List ℕ) : Type 0 where

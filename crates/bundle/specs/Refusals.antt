@@ -19,9 +19,9 @@ noTrailer b = length b below 8
 unfoldable pub outOfBundle : List ℕ → Bool
 outOfBundle b = startDistance b + 8 over length b
 
--- 12: n, t, f not admitted (n in 1..64, n > k·t, f ≤ t), or form over 1
+-- 12: n, t, f not admitted (n in 1..64, n > k·t, f ≤ t), or form over 2 (Q-4)
 unfoldable pub notAdmitted : ℕ → List ℕ → Bool
-notAdmitted k b = outside 1 64 (nOf b) || nOf b atMost k * tOf b || fOf b over tOf b || formOf b over 1
+notAdmitted k b = outside 1 64 (nOf b) || nOf b atMost k * tOf b || fOf b over tOf b || formOf b over 2
 
 -- 13: step distance no multiple of 4, over 16,384, or second distance not that plus n-f
 unfoldable pub stepsOff : List ℕ → Bool

@@ -172,7 +172,7 @@ fn not_admitted(k: usize, b: &[u8]) -> bool
 {
     let n = n(b);
     let t = t(b);
-    fault::outside(1, 64, n) | (n <= fault::times(k, t)) | (t < f(b)) | (1 < form(b))
+    fault::outside(1, 64, n) | (n <= fault::times(k, t)) | (t < f(b)) | (2 < form(b))
 }
 
 // 13

@@ -11,7 +11,7 @@ use Rattle.fault.proofs.FaultLaws.{if-keeps}
 use Rattle.fault.specs.declared.Answer.{Answer}
 use Rattle.engine.specs.Entry.{runAnswer}
 use Rattle.engine.proofs.BoundLaws.{AnswerWithin, run-answer-within}
-use Rattle.translate.specs.Entry.{translateAnswer}
+use Rattle.translate.specs.Entry.{translateToAnswer}
 use Rattle.translate.proofs.BoundLaws.{translate-answer-within}
 use Rattle.drawing.specs.Entry.{drawAnswer, undrawAnswer}
 use Rattle.drawing.proofs.BoundLaws.{DrawnWithin, draw-within, undraw-within}
@@ -60,8 +60,8 @@ within-fits n a l W = record { refusal = omega arith; place = omega arith; count
 run-fits : (b standing : List ℕ) (lent : ℕ) → Fits (runAnswer b standing lent)
 run-fits b standing lent = within-fits 4096 _ (omega arith) (run-answer-within b standing lent)
 
-translate-fits : (b standing : List ℕ) (lent : ℕ) → Fits (translateAnswer b standing lent)
-translate-fits b standing lent = within-fits 17392 _ (omega arith) (translate-answer-within b standing lent)
+translate-fits : (b standing : List ℕ) (k lent : ℕ) → Fits (translateToAnswer b standing k lent)
+translate-fits b standing k lent = within-fits 17392 _ (omega arith) (translate-answer-within b standing k lent)
 
 draw-fits : (s : List ℕ) (lent : ℕ) → Fits (drawAnswer s lent)
 draw-fits s lent = let W = draw-within s lent in record { refusal = omega (arith, W .refusal); place = omega (arith, W .place); count = omega (arith, W .count) }
@@ -97,8 +97,8 @@ packed-by e h = h ∙ ap packed e
 pub run-fits-by : {a : Answer} (b standing : List ℕ) (lent : ℕ) → a ≡ runAnswer b standing lent → Fits a
 run-fits-by b standing lent e = subst⁻¹ Fits e (run-fits b standing lent)
 
-pub translate-fits-by : {a : Answer} (b standing : List ℕ) (lent : ℕ) → a ≡ translateAnswer b standing lent → Fits a
-translate-fits-by b standing lent e = subst⁻¹ Fits e (translate-fits b standing lent)
+pub translate-fits-by : {a : Answer} (b standing : List ℕ) (k lent : ℕ) → a ≡ translateToAnswer b standing k lent → Fits a
+translate-fits-by b standing k lent e = subst⁻¹ Fits e (translate-fits b standing k lent)
 
 pub draw-fits-by : {a : Answer} (s : List ℕ) (lent : ℕ) → a ≡ drawAnswer s lent → Fits a
 draw-fits-by s lent e = subst⁻¹ Fits e (draw-fits s lent)

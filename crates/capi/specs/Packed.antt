@@ -9,7 +9,7 @@ use Rattle.fault.specs.Tests.{_below_, _differs_}
 use Rattle.fault.specs.Fault.{_if_else_}
 use Rattle.fault.specs.declared.Answer.{Answer}
 use Rattle.engine.specs.Entry.{runAnswer}
-use Rattle.translate.specs.Entry.{translateAnswer}
+use Rattle.translate.specs.Entry.{translateToAnswer}
 use Rattle.drawing.specs.Entry.{drawAnswer, undrawAnswer}
 use Rattle.first_step.specs.declared.First.{First}
 use Rattle.first_step.specs.Entry.{firstAnswer}
@@ -57,7 +57,7 @@ pub record NothingLost : Type 0 where
   pub answer-back : (a : Answer) → Fits a → answerIn (packed a) ≡ a
   pub first-back : (f : First) → FirstFits f → firstIn (packedFirst f) ≡ f
   pub run-fits : (b standing : List ℕ) (lent : ℕ) → Fits (runAnswer b standing lent)
-  pub translate-fits : (b standing : List ℕ) (lent : ℕ) → Fits (translateAnswer b standing lent)
+  pub translate-fits : (b standing : List ℕ) (k lent : ℕ) → Fits (translateToAnswer b standing k lent)
   pub draw-fits : (s : List ℕ) (lent : ℕ) → Fits (drawAnswer s lent)
   -- a text under 2^24 bytes has no place that is capped
   pub undraw-fits : (t : List ℕ) (lent : ℕ) → Fits (capped (undrawAnswer t lent))

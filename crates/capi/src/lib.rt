@@ -4,7 +4,7 @@ ghost use lib.ListN.{length};
 ghost use Rattle.fault.specs.Tests.{_below_};
 ghost use Rattle.fault.specs.Fault.{_if_else_};
 ghost use Rattle.engine.specs.Entry.{runAnswer, runWords};
-ghost use Rattle.translate.specs.Entry.{translateAnswer, translateBytes};
+ghost use Rattle.translate.specs.Entry.{translateAnswer, translateBytes, translateToAnswer, translateToBytes};
 ghost use Rattle.drawing.specs.Entry.{drawAnswer, drawBytes, undrawAnswer, undrawBytes};
 ghost use Rattle.first_step.specs.Entry.{firstAnswer};
 ghost use Rattle.capi.specs.Packed.{packed, capped, Fits, packedFirst, FirstFits};
@@ -20,7 +20,7 @@ pub extern "C" fn macaroosh_run<'a>(bundle: &'a [u8], standing: &'a [u8], words:
     pack(engine::run(bundle, standing, words))
 }
 
-// Writes a bundle's translation into the lent bytes: refusal, place, bytes written.
+// Writes a bundle's translation to the form that its own usually goes to into the lent bytes: refusal, place, bytes written.
 #[no_mangle]
 pub extern "C" fn macaroosh_translate<'a>(
     bundle: &'a [u8],
@@ -31,6 +31,20 @@ pub extern "C" fn macaroosh_translate<'a>(
     ensures { λ r. ⌜ now (out .exit) ≡ translateBytes (now (bundle .entry)) (now (standing .entry)) (now (out .entry)) ⌝ }
 {
     pack(translate::translate(bundle, standing, out))
+}
+
+// The same to the form that is asked for.
+#[no_mangle]
+pub extern "C" fn macaroosh_translate_to<'a>(
+    bundle: &'a [u8],
+    standing: &'a [u8],
+    form: u64,
+    out: &mut [u8],
+) -> u64
+    ensures { λ r. ⌜ r ≡ packed (translateToAnswer (now (bundle .entry)) (now (standing .entry)) form (length (now (out .entry)))) ⌝ }
+    ensures { λ r. ⌜ now (out .exit) ≡ translateToBytes (now (bundle .entry)) (now (standing .entry)) form (now (out .entry)) ⌝ }
+{
+    pack(translate::translate_to(bundle, standing, form, out))
 }
 
 // Writes a table's drawing into the lent bytes: refusal, place, bytes written.

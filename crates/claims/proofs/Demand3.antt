@@ -1,7 +1,7 @@
--- Demand 3: the agreement of both forms, for the bytes that translation writes.
+-- Demand 3: the agreement of the forms, for the bytes that translation writes.
 use mathlib.Core.Path.{_≡_, refl, sym, ap, ap₂, _∙_, subst, subst⁻¹}
-use mathlib.Core.Bool.{Bool, true, false, not}
-use mathlib.Core.List.{List, _++_, map}
+use mathlib.Core.Bool.{Bool, true, false, not, true≢false}
+use mathlib.Core.List.{List, _++_}
 use Prim.Native.Nat.{ℕ, zero, suc, _+_, _-_, _*_, _≤_, _<_}
 use native.Mathlib.Decide.{ℕ-discrete, decLt}
 use native.Mathlib.Omega.{arith}
@@ -10,73 +10,86 @@ use lib.ListN.{length, take, drop, take-append-drop}
 use lib.Seq.{take-length, take-all}
 use borrow.Author.Tests.{eq-eqb, ne-eqb, le-ltb}
 use Rattle.fault.specs.declared.Verdict.{Verdict}
+use Rattle.fault.specs.declared.Answer.{Answer}
 use Rattle.fault.specs.Tests.{_below_, _differs_}
 use Rattle.fault.specs.Fault.{refused, nothingDone, _if_else_}
-use Rattle.fault.proofs.FaultLaws.{if-yes, if-no}
+use Rattle.fault.proofs.FaultLaws.{if-yes, if-no, if-keeps}
+use Rattle.fault.proofs.TestLaws.{same}
 use Rattle.table.specs.Table.{typesOf, rulesOf}
 use Rattle.bundle.specs.Bundle.{nOf, tOf, fOf, formOf, correctOf, tableInUse, startsOf}
 use Rattle.bundle.specs.Refusals.{readFault}
 use Rattle.bundle.specs.Facts.{Read}
-use Rattle.bundle.proofs.BundleLaws.{read-by}
+use Rattle.bundle.proofs.BundleLaws.{read-by, read-within}
 use Rattle.paper.specs.Paper.{Design, Step}
 use Rattle.paper.specs.Words.{size, start}
 use Rattle.paper.specs.Form.{wide}
+use Rattle.paper.specs.Step.{columnOf}
 use Rattle.paper.specs.Run.{Ran, run, after}
-use Rattle.agree.specs.Translation.{tagged, lowest, lowAll}
-use Rattle.agree.specs.Picture.{Kept, Pictured}
-use Rattle.agree.proofs.Runs.{forward-run, backward-run}
+use Rattle.agree.specs.Translation.{moved}
+use Rattle.agree.specs.Picture.{Pictured}
+use Rattle.agree.specs.Agreement.{InAllForms}
+use Rattle.agree.proofs.Columns.{picture-laws}
+use Rattle.agree.proofs.Runs.{all-forms}
 use Rattle.engine.specs.declared.Sizes.{Sizes}
-use Rattle.fault.specs.declared.Answer.{Answer}
 use Rattle.engine.specs.Design.{sizesOf, designOf, roomOf}
 use Rattle.engine.specs.Entry.{sizesIn, designIn, startOf, scheduleOf, ranWith, ranOf, ranAnswer, runAnswer}
+use Rattle.engine.proofs.BoundLaws.{ran-within}
 use Rattle.engine.proofs.PlaceLaws.{rows-few, rows-are}
 use Rattle.engine.proofs.EntryLaws.{suits}
-use Rattle.translate.specs.Written.{moved, rewritten, translationWith}
-use Rattle.translate.specs.Entry.{translationOf, wrote, translateAnswer, translateBytes}
+use Rattle.translate.specs.Written.{rewritten, beginOf, translationWith}
+use Rattle.translate.specs.Entry.{translationOf, noOther, wrote, translateToAnswer, translateToBytes, usual, translateAnswer}
 use Rattle.translate.proofs.ReadLaws.{kept, begins}
 use Rattle.translate.proofs.WriteLaws.{moved-long, rewritten-long}
 use Rattle.translate.proofs.RewrittenLaws.{same-n, same-t, same-f, new-form, same-table, same-start-bytes, new-steps, same-reading, rewritten-again, rewritten-own}
-use Rattle.translate.proofs.EntryLaws.{done-refused, enter-refused, enter-short, enter-long}
+use Rattle.translate.proofs.EntryLaws.{other-known, other-made, done-refused, enter-refused, enter-same, enter-short, enter-long}
 use Rattle.first_step.specs.First.{Found, none, found, first}
 use Rattle.first_step.specs.Entry.{answerOf, afterRun, firstAnswer}
 use Rattle.claims.specs.FirstStep.{FirstAgreed}
-use Rattle.claims.specs.Demand3.{Runs, afterIn, inMessage, inCounting, movedFound, Translated, Refuses, Demand3}
+use Rattle.claims.specs.Demand3.{Runs, afterIn, Alike, Translated, taggedFound, lowestFound, Neighbours, Refuses, Demand3}
 use Rattle.claims.proofs.FirstAgreed.{first-agreed}
 
--- ---- a schedule of form k that runs, and the same in the other form; `begin k` is where form k begins
-record Twin (d : Design) (begin : ℕ → List ℕ) (k : ℕ) (ss : List Step) : Type 0 where
-  runs : run (1 - k) d (begin (1 - k)) (moved k d (begin 0) ss) .refusal ≡ 0
-  each : (i : ℕ) → Pictured d
-      (inMessage k (after k d (begin k) ss i) (after (1 - k) d (begin (1 - k)) (moved k d (begin 0) ss) i))
-      (inCounting k (after k d (begin k) ss i) (after (1 - k) d (begin (1 - k)) (moved k d (begin 0) ss) i))
-  trip : k ≡ 1 → map (tagged d) (moved k d (begin 0) ss) ≡ ss
+-- ---- neighbours are alike, and so are all forms
+module _ (d : Design) where
+  alike-pictured : (j : ℕ) (w v : List ℕ) → Pictured j d w v → Alike d (suc j) v j w
+  alike-pictured j w v X =
+      let L = picture-laws (d .boards) (d .faulty) j in
+      record {
+        states = X .states;
+        counts = λ p m hp hm. ap (columnOf (suc j) d .card) (X .rcvds p m hp hm) ∙ L .card _;
+        sents = λ m hm. ap (columnOf (suc j) d .card) (X .sents m hm) ∙ L .card _;
+      }
 
-twin : (d : Design) (begin : ℕ → List ℕ) → Kept d → Pictured d (begin 0) (begin 1) → (k : ℕ) (ss : List Step) → k ≤ 1 → run k d (begin k) ss .refusal ≡ 0 → Twin d begin k ss
-unfolding moved
-twin d begin K X zero ss l h =
-    let F = forward-run d K (begin 0) (begin 1) ss X h in
-    record { runs = F .accepted; each = F .pictured; trip = λ z. absurd (omega arith) }
-twin d begin K X (suc zero) ss l h =
-    let B = backward-run d K (begin 0) (begin 1) ss X h in
-    record { runs = B .accepted; each = B .pictured; trip = λ z. B .trip }
-twin d begin K X (suc (suc k)) ss l h = absurd (omega arith)
+  alike-through : {i j k : ℕ} {u w v : List ℕ} → Alike d i u j w → Alike d k v j w → Alike d i u k v
+  alike-through A B = record {
+    states = λ p h. A .states p h ∙ sym (B .states p h);
+    counts = λ p m hp hm. A .counts p m hp hm ∙ sym (B .counts p m hp hm);
+    sents = λ m hm. A .sents m hm ∙ sym (B .sents m hm);
+  }
 
--- the first steps of a pair
-moved-first : (d : Design) (k : ℕ) (own other : List ℕ) → k ≤ 1 → FirstAgreed d (inMessage k own other) (inCounting k own other)
-    → first (1 - k) d other ≡ movedFound k d (inMessage k own other) (first k d own)
-moved-first d zero own other l F = go (first 0 d own) refl
-  where
-    go : (x : Found) → first 0 d own ≡ x → first 1 d other ≡ movedFound 0 d own x
-    go none e = F .none-there e
-    go (found s) e = F .there s e
-moved-first d (suc zero) own other l F = go (first 1 d own) refl
-  where
-    go : (x : Found) → first 1 d own ≡ x → first 0 d other ≡ movedFound 1 d other x
-    go none e = F .none-back e
-    go (found s) e = F .back s e
-moved-first d (suc (suc k)) own other l F = absurd (omega arith)
+  alike-own : (j : ℕ) (w : List ℕ) → Alike d j w j w
+  alike-own j w = record { states = λ p h. refl; counts = λ p m hp hm. refl; sents = λ m hm. refl }
 
--- ---- a bundle that is read
+  -- down to message form
+  alike-sets : (W : ℕ → List ℕ) → ((j : ℕ) → Pictured j d (W j) (W (suc j))) → (k : ℕ) → Alike d k (W k) 0 (W 0)
+  alike-sets W X zero = alike-own 0 (W 0)
+  alike-sets W X (suc j) = alike-through (alike-pictured j (W j) (W (suc j)) (X j)) (alike-through (alike-own 0 (W 0)) (alike-sets W X j))
+
+  -- the first steps of neighbours
+  first-tagged : (j : ℕ) (w v : List ℕ) → FirstAgreed j d w v → first (suc j) d v ≡ taggedFound j d (first j d w)
+  first-tagged j w v F = go (first j d w) refl
+    where
+      go : (x : Found) → first j d w ≡ x → first (suc j) d v ≡ taggedFound j d x
+      go none e = F .none-there e
+      go (found s) e = F .there s e
+
+  first-lowest : (j : ℕ) (w v : List ℕ) → FirstAgreed j d w v → first j d w ≡ lowestFound j d w (first (suc j) d v)
+  first-lowest j w v F = go (first (suc j) d v) refl
+    where
+      go : (x : Found) → first (suc j) d v ≡ x → first j d w ≡ lowestFound j d w x
+      go none e = F .none-back e
+      go (found s) e = F .back s e
+
+-- ---- a bundle that runs
 module _ (b standing : List ℕ) (S : Runs b standing) where
   abbrev t : List ℕ
   t = tableInUse b standing
@@ -88,116 +101,142 @@ module _ (b standing : List ℕ) (S : Runs b standing) where
   d = designIn b standing
 
   abbrev begin : ℕ → List ℕ
-  begin k = start (d .types) (wide k) (startsOf b)
-
-  abbrev k : ℕ
-  k = formOf b
+  begin i = beginOf t b i
 
   abbrev ss : List Step
   ss = scheduleOf b
 
-  abbrev new : List Step
-  new = moved k d (begin 0) ss
+  abbrev new : ℕ → List Step
+  new i = moved (formOf b) i d begin ss
 
-  abbrev c : List ℕ
-  c = rewritten b new (1 - k)
+  -- the bundle in form i
+  abbrev form : ℕ → List ℕ
+  form i = rewritten b (new i) i
 
-  many : length new ≡ length ss
-  many = moved-long k d (begin 0) ss
-
-  runs-own : run k d (begin k) ss .refusal ≡ 0
+  all : InAllForms d begin (formOf b) ss
   unfolding ranWith
-  runs-own = S .accepted
+  all = all-forms d (kept t b R) begin (begins t b R) (formOf b) ss (S .accepted)
 
-  pair : Twin d begin k ss
-  pair = twin d begin (kept t b R) (begins t b R) k ss (R .admitted .form) runs-own
+  own : translationOf b standing (formOf b) ≡ b
+  unfolding translationWith
+  own = ap (λ (x : List Step). rewritten b x (formOf b)) (all .own) ∙ rewritten-own t b R
 
   -- the design depends on n, t, f and the table only
   abbrev design : ℕ → ℕ → ℕ → List ℕ → Design
   design n t f table = designOf (record { form = 0; correct = n - f; faulty = f; t = t; types = typesOf table; rules = rulesOf table; wide = 1; row = typesOf table }) table
 
-  same-design : designIn c standing ≡ d
-  same-design = λ i. design (same-n t b R new (1 - k) many i) (same-t t b R new (1 - k) many i) (same-f t b R new (1 - k) many i) (same-table t b R new (1 - k) many standing i)
+  module _ (k : ℕ) where
+    abbrev c : List ℕ
+    c = form k
 
-  abbrev form-c : formOf c ≡ 1 - k
-  form-c = new-form t b R new (1 - k) many
+    many : length (new k) ≡ length ss
+    many = moved-long (formOf b) k d begin ss
 
-  -- where the translation begins, and its words after i steps
-  begin-c : startOf (tableInUse c standing) c ≡ begin (1 - k)
-  begin-c = λ i. start (typesOf (same-table t b R new (1 - k) many standing i)) (wide (form-c i)) (same-start-bytes t b R new (1 - k) many i)
+    same-design : designIn c standing ≡ d
+    same-design = λ i. design (same-n t b R (new k) k many i) (same-t t b R (new k) k many i) (same-f t b R (new k) k many i) (same-table t b R (new k) k many standing i)
 
-  ran-c : ranOf c standing ≡ run (1 - k) d (begin (1 - k)) new
-  unfolding ranWith
-  ran-c = λ i. run (form-c i) (same-design i) (begin-c i) (new-steps t b R new (1 - k) many i)
+    abbrev form-c : formOf c ≡ k
+    form-c = new-form t b R (new k) k many
 
-  after-c : (j : ℕ) → afterIn c standing j ≡ after (1 - k) d (begin (1 - k)) new j
-  after-c j = λ i. after (form-c i) (same-design i) (begin-c i) (new-steps t b R new (1 - k) many i) j
+    -- where the translation begins, and its words after i steps
+    begins-c : (i : ℕ) → beginOf (tableInUse c standing) c i ≡ begin i
+    begins-c i = λ x. start (typesOf (same-table t b R (new k) k many standing x)) (wide i) (same-start-bytes t b R (new k) k many x)
 
-  runs-c : Runs c standing
-  runs-c = record {
-    read = ap (λ (v : Verdict). v .number) (same-reading t b R new (1 - k) many standing (omega arith) refl) ∙ S .read;
-    accepted = ap (λ (r : Ran). r .refusal) ran-c ∙ pair .runs;
-  }
+    begin-c : startOf (tableInUse c standing) c ≡ begin k
+    begin-c = λ i. start (typesOf (same-table t b R (new k) k many standing i)) (wide (form-c i)) (same-start-bytes t b R (new k) k many i)
 
-  each-c : (j : ℕ) → Pictured d (inMessage k (afterIn b standing j) (afterIn c standing j)) (inCounting k (afterIn b standing j) (afterIn c standing j))
-  each-c j = subst⁻¹ (λ (w : List ℕ). Pictured d (inMessage k (afterIn b standing j) w) (inCounting k (afterIn b standing j) w)) (after-c j) (pair .each j)
+    ran-c : ranOf c standing ≡ run k d (begin k) (new k)
+    unfolding ranWith
+    ran-c = λ i. run (form-c i) (same-design i) (begin-c i) (new-steps t b R (new k) k many i)
 
-  -- ---- the answer and the bytes
-  clean : (readFault b standing .number differs 0) ≡ false
-  clean = ap not (eq-eqb _ 0 (S .read))
+    after-c : (n : ℕ) → afterIn c standing n ≡ after k d (begin k) (new k) n
+    after-c n = λ i. after (form-c i) (same-design i) (begin-c i) (new-steps t b R (new k) k many i) n
 
-  answered-c : (lent : ℕ) → length b ≤ lent → translateAnswer b standing lent ≡ record { refusal = 0; place = 0; count = length b }
-  unfolding translateAnswer wrote
-  answered-c lent l = sym (if-no _ refl clean (if-no _ refl (le-ltb lent (length b) l) (if-yes _ refl refl (eq-eqb _ 0 (S .accepted)))))
+    -- the words that are left are those after all steps
+    left-c : ranOf c standing .words ≡ after k d (begin k) (new k) (length ss)
+    left-c = ap (λ (r : Ran). r .words) ran-c ∙ sym (ap (λ (x : List Step). run k d (begin k) x .words) (take-all (length ss) (new k) (omega (arith, many))))
 
-  written-c : (out : List ℕ) → length b ≤ length out → translateBytes b standing out ≡ c ++ drop (length b) out
-  unfolding translateBytes translationWith
-  written-c out l = sym (if-no _ refl clean (if-no _ refl (le-ltb (length out) (length b) l) (if-no _ refl (ap not (eq-eqb _ 0 (S .accepted))) refl)))
+    runs-c : k ≤ 2 → Runs c standing
+    runs-c l = record {
+      read = ap (λ (v : Verdict). v .number) (same-reading t b R (new k) k many standing l refl) ∙ S .read;
+      accepted = ap (λ (r : Ran). r .refusal) ran-c ∙ all .runs k;
+    }
 
-  -- ---- there and back
-  back-c : k ≡ 1 → translationOf c standing ≡ b
-  unfolding translationWith moved
-  back-c e =
-      let z : 1 - k ≡ 0 = omega arith in
-      let p : translationOf c standing ≡ rewritten c (moved (1 - k) d (begin 0) new) (1 - (1 - k)) =
-      λ i. rewritten c (moved (form-c i) (same-design i) (start (typesOf (same-table t b R new (1 - k) many standing i)) (wide 0) (same-start-bytes t b R new (1 - k) many i)) (new-steps t b R new (1 - k) many i)) (1 - form-c i) in
-      p ∙ ap (λ (j : ℕ). rewritten c (moved j d (begin 0) new) (1 - j)) z ∙ ap (λ (x : List Step). rewritten c x 1) (pair .trip e)
-      ∙ rewritten-again t b R new (1 - k) many ss 1 refl ∙ ap (rewritten b ss) (sym e) ∙ rewritten-own t b R
+    alike-c : (n : ℕ) → Alike d (formOf b) (afterIn b standing n) k (afterIn c standing n)
+    alike-c n =
+        let W : ℕ → List ℕ = λ i. after i d (begin i) (new i) n in
+        let e : W (formOf b) ≡ afterIn b standing n = ap (λ (x : List Step). after (formOf b) d (begin (formOf b)) x n) (all .own) in
+        let A = alike-sets d W (λ i. all .pictured i n) in
+        subst⁻¹ (Alike d (formOf b) (afterIn b standing n) k) (after-c n)
+        (subst (λ (w : List ℕ). Alike d (formOf b) w k (W k)) e (alike-through d (A (formOf b)) (A k)))
 
-  -- ---- the first step
-  end-c : Pictured d (inMessage k (ranOf b standing .words) (ranOf c standing .words)) (inCounting k (ranOf b standing .words) (ranOf c standing .words))
-  unfolding ranWith
-  end-c =
-      let own : after k d (begin k) ss (length ss) ≡ ranOf b standing .words = ap (λ (x : List Step). run k d (begin k) x .words) (take-length ss) in
-      let other : after (1 - k) d (begin (1 - k)) new (length ss) ≡ ranOf c standing .words =
-      ap (λ (x : List Step). run (1 - k) d (begin (1 - k)) x .words) (take-all (length ss) new (omega (arith, many))) ∙ sym (ap (λ (r : Ran). r .words) ran-c) in
-      subst (λ (w : List ℕ). Pictured d (inMessage k (ranOf b standing .words) w) (inCounting k (ranOf b standing .words) w)) other
-      (subst (λ (w : List ℕ). Pictured d (inMessage k w (after (1 - k) d (begin (1 - k)) new (length ss))) (inCounting k w (after (1 - k) d (begin (1 - k)) new (length ss)))) own (pair .each (length ss)))
+    -- ---- the answer and the bytes
+    clean : (readFault b standing .number differs 0) ≡ false
+    clean = ap not (eq-eqb _ 0 (S .read))
 
-  first-c : firstAnswer c standing ≡ answerOf (movedFound k d (inMessage k (ranOf b standing .words) (ranOf c standing .words)) (first k d (ranOf b standing .words)))
+    module _ (o : noOther b k ≡ false) where
+      answered-c : (lent : ℕ) → length b ≤ lent → translateToAnswer b standing k lent ≡ record { refusal = 0; place = 0; count = length b }
+      unfolding translateToAnswer wrote
+      answered-c lent l = sym (if-no _ refl clean (if-no _ refl o (if-no _ refl (le-ltb lent (length b) l) (if-yes _ refl refl (eq-eqb _ 0 (S .accepted))))))
+
+      written-c : (out : List ℕ) → length b ≤ length out → translateToBytes b standing k out ≡ c ++ drop (length b) out
+      unfolding translateToBytes translationWith
+      written-c out l = sym (if-no _ refl clean (if-no _ refl o (if-no _ refl (le-ltb (length out) (length b) l) (if-no _ refl (ap not (eq-eqb _ 0 (S .accepted))) refl))))
+
+    -- ---- to a finer form and back
+    back-c : k < formOf b → translationOf c standing (formOf b) ≡ b
+    unfolding translationWith
+    back-c l =
+        let p : translationOf c standing (formOf b) ≡ rewritten c (moved k (formOf b) d begin (new k)) (formOf b) =
+        λ i. rewritten c (moved (form-c i) (formOf b) (same-design i) (λ x. begins-c x i) (new-steps t b R (new k) k many i)) (formOf b) in
+        p ∙ ap (λ (x : List Step). rewritten c x (formOf b)) (all .back k (omega arith)) ∙ rewritten-again t b R (new k) k many ss (formOf b) refl ∙ rewritten-own t b R
+
+    translated : noOther b k ≡ false → Translated b standing k (translationOf b standing k)
+    unfolding translationWith
+    translated o = record {
+      answered = answered-c o;
+      written = written-c o;
+      long = rewritten-long t b R (new k) k many;
+      table = same-table t b R (new k) k many standing;
+      starts = same-start-bytes t b R (new k) k many;
+      n = same-n t b R (new k) k many;
+      t = same-t t b R (new k) k many;
+      f = same-f t b R (new k) k many;
+      form = form-c;
+      runs = runs-c (other-known b k o);
+      alike = alike-c;
+      back = back-c;
+    }
+
+  -- ---- neighbours
+  first-in : (k : ℕ) → k ≤ 2 → firstAnswer (form k) standing ≡ answerOf (first k d (ranOf (form k) standing .words))
   unfolding firstAnswer afterRun
-  first-c =
-      sym (if-no _ refl (ap not (eq-eqb _ 0 (runs-c .read))) (if-no _ refl (ap not (eq-eqb _ 0 (runs-c .accepted))) refl))
-      ∙ (λ i. answerOf (first (form-c i) (same-design i) (ranOf c standing .words)))
-      ∙ ap answerOf (moved-first d k (ranOf b standing .words) (ranOf c standing .words) (R .admitted .form) (first-agreed d (kept t b R) _ _ end-c))
+  first-in k l =
+      let C = runs-c k l in
+      sym (if-no _ refl (ap not (eq-eqb _ 0 (C .read))) (if-no _ refl (ap not (eq-eqb _ 0 (C .accepted))) refl))
+      ∙ (λ i. answerOf (first (form-c k i) (same-design k i) (ranOf (form k) standing .words)))
 
-  translated : Translated b standing (translationOf b standing)
-  unfolding translationWith
-  translated = record {
-    answered = answered-c;
-    written = written-c;
-    long = rewritten-long t b R new (1 - k) many;
-    table = same-table t b R new (1 - k) many standing;
-    starts = same-start-bytes t b R new (1 - k) many;
-    n = same-n t b R new (1 - k) many;
-    t = same-t t b R new (1 - k) many;
-    f = same-f t b R new (1 - k) many;
-    form = form-c;
-    runs = runs-c;
-    each = each-c;
-    back = back-c;
-    first = first-c;
-  }
+  module _ (j : ℕ) (l : j ≤ 1) where
+    pictured-in : (n : ℕ) → Pictured j d (afterIn (form j) standing n) (afterIn (form (suc j)) standing n)
+    pictured-in n =
+        subst⁻¹ (λ (w : List ℕ). Pictured j d w (afterIn (form (suc j)) standing n)) (after-c j n)
+        (subst⁻¹ (Pictured j d (after j d (begin j) (new j) n)) (after-c (suc j) n) (all .pictured j n))
+
+    left-pictured : Pictured j d (ranOf (form j) standing .words) (ranOf (form (suc j)) standing .words)
+    left-pictured =
+        subst⁻¹ (λ (w : List ℕ). Pictured j d w (ranOf (form (suc j)) standing .words)) (left-c j)
+        (subst⁻¹ (Pictured j d (after j d (begin j) (new j) (length ss))) (left-c (suc j)) (all .pictured j (length ss)))
+
+    firsts : FirstAgreed j d (ranOf (form j) standing .words) (ranOf (form (suc j)) standing .words)
+    firsts = first-agreed j d (kept t b R) _ _ left-pictured
+
+    neighbours : Neighbours j d standing (translationOf b standing j) (translationOf b standing (suc j))
+    unfolding translationWith
+    neighbours = record {
+      pictured = pictured-in;
+      first-there = first-in (suc j) (omega arith) ∙ ap answerOf (first-tagged d j _ _ firsts);
+      first-back = first-in j (omega arith) ∙ ap answerOf (first-lowest d j _ _ firsts);
+    }
 
 -- ---- refusals
 -- 580 words are enough
@@ -230,50 +269,82 @@ module _ (b standing : List ℕ) (lent : ℕ) (l : 580 ≤ lent) where
   unfolding ranAnswer
   runs-all S = ap (λ (a : Answer). a .refusal) (run-read (S .read)) ∙ S .accepted
 
--- what translation answers and leaves where it refuses: at reading, for want of room, at a step
-module _ (b standing out : List ℕ) where
+-- what translation answers and leaves where it refuses: at reading, for want of another form, for want of room, at a step
+module _ (b standing : List ℕ) (k : ℕ) (out : List ℕ) where
   abbrev Refused : Answer → Type 0
-  Refused a = Refuses b standing out a
+  Refused a = Refuses b standing k out a
 
   unread : (readFault b standing .number ≡ 0 → ⊥) → Refused (nothingDone (readFault b standing))
-  unread n = let E = enter-refused b standing out refl n refl in record { answer = sym (E .answer); bytes = sym (E .bytes) }
+  unread n = let E = enter-refused b standing k out refl n refl in record { answer = sym (E .answer); bytes = sym (E .bytes) }
 
-  short : readFault b standing .number ≡ 0 → length out < length b → Refused (nothingDone (refused 30))
-  short z l = let E = enter-short b standing out refl z l refl in record { answer = sym (E .answer); bytes = sym (E .bytes) }
+  no-other : readFault b standing .number ≡ 0 → noOther b k ≡ true → Refused (nothingDone (refused 31))
+  no-other z o = let E = enter-same b standing k out refl z o refl in record { answer = sym (E .answer); bytes = sym (E .bytes) }
 
-  stopped : readFault b standing .number ≡ 0 → length b ≤ length out → (ranOf b standing .refusal ≡ 0 → ⊥) → Refused (ranAnswer (ranOf b standing))
+  short : readFault b standing .number ≡ 0 → noOther b k ≡ false → length out < length b → Refused (nothingDone (refused 30))
+  short z o l = let E = enter-short b standing k out refl z o l refl in record { answer = sym (E .answer); bytes = sym (E .bytes) }
+
+  stopped : readFault b standing .number ≡ 0 → noOther b k ≡ false → length b ≤ length out → (ranOf b standing .refusal ≡ 0 → ⊥) → Refused (ranAnswer (ranOf b standing))
   unfolding ranAnswer
-  stopped z l n =
+  stopped z o l n =
       let x = take (length b) out in
-      let D = done-refused (tableInUse b standing) b x (length b) refl n in
-      let E = enter-long b standing out refl z l refl D (take-append-drop (length b) out) in
+      let D = done-refused (tableInUse b standing) b x k (length b) refl n in
+      let E = enter-long b standing k out refl z o l refl D (take-append-drop (length b) out) in
       record { answer = sym (E .answer); bytes = sym (E .bytes) ∙ take-append-drop (length b) out }
 
-  nothing : {a : Answer} → Refused a → (translateBytes b standing out ≡ out) × (translateAnswer b standing (length out) .count ≡ 0)
-  nothing F = (F .bytes, ap (λ (x : Answer). x .count) (F .answer))
-
-  refuses : (lent : ℕ) → 580 ≤ lent → length b ≤ length out → (runAnswer b standing lent .refusal ≡ 0 → ⊥) → Refused (runAnswer b standing lent)
+  refuses : (lent : ℕ) → 580 ≤ lent → length b ≤ length out → noOther b k ≡ false → (runAnswer b standing lent .refusal ≡ 0 → ⊥) → Refused (runAnswer b standing lent)
   unfolding ranAnswer
-  refuses lent l m r = go (ℕ-discrete (readFault b standing .number) 0)
+  refuses lent l m o r = go (ℕ-discrete (readFault b standing .number) 0)
     where
       go : Dec (readFault b standing .number ≡ 0) → Refused (runAnswer b standing lent)
       go (no n) = subst⁻¹ Refused (run-unread b standing lent l n) (unread n)
-      go (yes z) = let e = run-read b standing lent l z in subst⁻¹ Refused e (stopped z m (λ y. r (ap (λ (a : Answer). a .refusal) e ∙ y)))
+      go (yes z) = let e = run-read b standing lent l z in subst⁻¹ Refused e (stopped z o m (λ y. r (ap (λ (a : Answer). a .refusal) e ∙ y)))
 
-  untouched : (translateAnswer b standing (length out) .refusal ≡ 0 → ⊥) → (translateBytes b standing out ≡ out) × (translateAnswer b standing (length out) .count ≡ 0)
-  untouched r = go (ℕ-discrete (readFault b standing .number) 0) (decLt (length out) (length b)) (ℕ-discrete (ranOf b standing .refusal) 0)
+  nothing : {a : Answer} → Refused a → (translateToBytes b standing k out ≡ out) × (translateToAnswer b standing k (length out) .count ≡ 0)
+  nothing F = (F .bytes, ap (λ (x : Answer). x .count) (F .answer))
+
+  untouched : (translateToAnswer b standing k (length out) .refusal ≡ 0 → ⊥) → (translateToBytes b standing k out ≡ out) × (translateToAnswer b standing k (length out) .count ≡ 0)
+  untouched r = go (ℕ-discrete (readFault b standing .number) 0) (noOther b k) refl (decLt (length out) (length b)) (ℕ-discrete (ranOf b standing .refusal) 0)
     where
-      go : Dec (readFault b standing .number ≡ 0) → Dec (length out < length b) → Dec (ranOf b standing .refusal ≡ 0) → (translateBytes b standing out ≡ out) × (translateAnswer b standing (length out) .count ≡ 0)
-      go (no n) x y = nothing (unread n)
-      go (yes z) (yes l) y = nothing (short z l)
-      go (yes z) (no l) (no n) = nothing (stopped z (omega arith) n)
-      go (yes z) (no l) (yes y) = absurd (r (ap (λ (a : Answer). a .refusal) (translated b standing (record { read = z; accepted = y }) .answered (length out) (omega arith))))
+      go : Dec (readFault b standing .number ≡ 0) → (o : Bool) → noOther b k ≡ o → Dec (length out < length b) → Dec (ranOf b standing .refusal ≡ 0)
+          → (translateToBytes b standing k out ≡ out) × (translateToAnswer b standing k (length out) .count ≡ 0)
+      go (no n) o e x y = nothing (unread n)
+      go (yes z) true e x y = nothing (no-other z e)
+      go (yes z) false e (yes l) y = nothing (short z e l)
+      go (yes z) false e (no l) (no n) = nothing (stopped z e (omega arith) n)
+      go (yes z) false e (no l) (yes y) = absurd (r (ap (λ (a : Answer). a .refusal) (translated b standing (record { read = z; accepted = y }) k e .answered (length out) (omega arith))))
+
+-- ---- the usual form is another one
+usual-other : (b : List ℕ) → noOther b (usual b) ≡ false
+unfolding usual _if_else_
+usual-other b = go (ℕ-discrete (formOf b) 1)
+  where
+    go : Dec (formOf b ≡ 1) → noOther b (usual b) ≡ false
+    go (yes e) = rw (eq-eqb (formOf b) 1 e) (other-made b 0 (λ z. absurd (omega (arith, e, z))) (omega arith))
+    go (no n) = rw (ne-eqb (formOf b) 1 n) (other-made b 1 (λ z. n (sym z)) (omega arith))
+
+-- a refusal other than 31
+abbrev Other : Answer → Type 0
+Other a = a .refusal ≡ 31 → ⊥
+
+never-31 : (b standing : List ℕ) (lent : ℕ) → translateAnswer b standing lent .refusal ≡ 31 → ⊥
+unfolding translateToAnswer wrote
+never-31 b standing lent =
+    if-keeps Other _ (readFault b standing .number differs 0) _ (λ _ e. absurd (omega (arith, e, read-within (tableInUse b standing) b .number)))
+    (λ f. if-keeps Other _ (noOther b (usual b)) _ (λ o e. true≢false (sym o ∙ usual-other b))
+    (λ _. if-keeps Other _ (lent below length b) _ (λ _ e. absurd (omega arith))
+    (λ _. if-keeps Other _ (eqb (ranOf b standing .refusal) 0) _ (λ _ e. absurd (omega arith))
+    (λ _ e. absurd (omega (arith, e, ran-within (tableInUse b standing) b (read-by b standing refl (same _ 0 f) refl) .refusal))))))
 
 pub demand3 : Demand3
 demand3 = record {
-  translated = translated;
+  translated = λ b standing k S o. translated b standing S k o;
+  own = own;
+  neighbours = λ b standing j S l. neighbours b standing S j l;
   runs = runs-by;
   runs-all = runs-all;
-  refused = λ b standing out lent l m r. refuses b standing out lent l m r;
+  refused = refuses;
+  no-other = no-other;
   untouched = untouched;
+  usual-other = usual-other;
+  never-31 = never-31;
 }

@@ -12,11 +12,11 @@ use Rattle.paper.specs.Words.{size, cellAt, sentAt, state, cell, sent, hear, te
 use Rattle.paper.specs.Form.{wide, slot, bump, coll, shown}
 use Rattle.paper.specs.Step.{heard, stepped, malformed, notInTransit, notMet, stepFault}
 use Rattle.paper.specs.Run.{stepsIn, run}
-use Rattle.agree.specs.Translation.{tagOf, tagBy, lowSender, lowest, lowAll}
+use Rattle.agree.specs.Translation.{tagOf, tagBy, lowSender, lowest, lowAll, coarser, finer, moved}
 use Rattle.engine.specs.Design.{metAt}
 use Rattle.engine.specs.Entry.{ranWith, ranAnswer, runAnswer, runWords}
-use Rattle.translate.specs.Written.{bytesOf, rewritten, moved, translationWith}
-use Rattle.translate.specs.Entry.{wrote, translateAnswer, translateBytes}
+use Rattle.translate.specs.Written.{bytesOf, rewritten, translationWith}
+use Rattle.translate.specs.Entry.{noOther, wrote, translateToAnswer, translateToBytes, usual}
 use Rattle.first_step.specs.First.{orElse, seek, tries, first, possible}
 use Rattle.first_step.specs.Entry.{afterRun, firstAnswer}
 use Rattle.dot.specs.Numbers.{decimal, signed}
@@ -30,7 +30,7 @@ unfolding
     count some every mem insert signedByte thresholdOf _if_else_ _▹_ firstFault ruleAt tooShort countsOff distancesOff stateOff noInitial noState forgets sendsTwo
     stateFault ruleFault recordsFault tableFault frontLength tableInUse startsOf stepsOf noTrailer outOfBundle notAdmitted stepsOff notInitial startFault scheduleFault
     faultWith size cellAt sentAt state cell sent hear tell start wide slot bump coll shown heard stepped malformed notInTransit notMet stepFault stepsIn run tagOf tagBy lowSender lowest lowAll least metAt ranWith
-    ranAnswer runAnswer runWords bytesOf rewritten moved translationWith wrote translateAnswer translateBytes orElse seek possible tries first afterRun firstAnswer
+    ranAnswer runAnswer runWords bytesOf rewritten coarser finer moved translationWith noOther wrote translateToAnswer translateToBytes usual orElse seek possible tries first afterRun firstAnswer
     decimal signed isBlank written headText joint numbersText labelText stateText ruleText statesText rulesText tableText drawingOf isDigit canMinus limit grow put newState newRule nextState
     take1 growing whole next ended onward runText reading trailerOf tableOf strange drawnFault drawnTable given left drawAnswer drawBytes undrawAnswer undrawBytes
-figures = (refl, (refl, (refl, (refl, (refl, (refl, ((refl, refl), ((refl, refl), ((refl, refl), ((refl, refl), ((refl, refl), ((refl, refl), ((refl, refl), ((refl, refl), ((refl, refl), (refl, (refl, (refl, (refl, (refl, ((refl, refl), ((refl, refl), ((refl, refl), ((refl, refl), ((refl, refl), (refl, (refl, (refl, ((refl, refl), ((refl, refl), ((refl, refl), ((refl, refl), ((refl, refl), ((refl, refl), ((refl, refl), ((refl, refl), ((refl, refl), ((refl, refl), ((refl, refl), ((refl, refl), ((refl, refl), ((refl, refl), ((refl, refl), ((refl, refl), ((refl, refl), ((refl, refl), (refl, (refl, tt))))))))))))))))))))))))))))))))))))))))))))))))
+figures = (refl, (refl, (refl, (refl, (refl, (refl, ((refl, refl), ((refl, refl), ((refl, refl), ((refl, refl), ((refl, refl), ((refl, refl), ((refl, refl), ((refl, refl), ((refl, refl), (refl, (refl, (refl, (refl, (refl, ((refl, refl), ((refl, refl), ((refl, refl), ((refl, refl), ((refl, refl), (refl, (refl, (refl, ((refl, refl), ((refl, refl), ((refl, refl), ((refl, refl), ((refl, refl), ((refl, refl), ((refl, refl), ((refl, refl), ((refl, refl), ((refl, refl), ((refl, refl), ((refl, refl), ((refl, refl), ((refl, refl), ((refl, refl), ((refl, refl), ((refl, refl), ((refl, refl), ((refl, refl), ((refl, refl), ((refl, refl), ((refl, refl), ((refl, refl), ((refl, refl), (refl, ((refl, refl), ((refl, refl), ((refl, refl), (refl, ((refl, refl), ((refl, refl), ((refl, refl), ((refl, refl), ((refl, refl), ((refl, refl), ((refl, refl), (refl, (refl, (refl, tt)))))))))))))))))))))))))))))))))))))))))))))))))))))))))))))))))))

@@ -1,9 +1,9 @@
--- The first possible step in both forms. Each is accepted in its own form and so, translated, in the other; neither may then
+-- The first possible step in neighbouring forms. Each is accepted in its own form and so, translated, in the other; neither may then
 -- come before the other's first.
 use mathlib.Core.Path.{_≡_, refl, sym, ap, ap₂, _∙_, subst}
 use mathlib.Core.Bool.{Bool, true, false, true≢false}
 use mathlib.Core.List.{List}
-use Prim.Native.Nat.{ℕ, _<_}
+use Prim.Native.Nat.{ℕ, suc, _<_}
 use native.Mathlib.Decide.{decLt}
 use native.Mathlib.Omega.{arith}
 use Rattle.paper.specs.Paper.{Design, Step, silent}
@@ -11,7 +11,7 @@ use Rattle.paper.specs.Step.{columnOf, rcvdOf, sentOf, stepFault}
 use Rattle.paper.proofs.StepLaws.{accepted}
 use Rattle.agree.specs.Translation.{tagOf, withSource, tagged, lowSender, lowest}
 use Rattle.agree.specs.Picture.{Kept, Pictured}
-use Rattle.agree.proofs.Senders.{tag-grows}
+use Rattle.agree.proofs.Columns.{picture-laws}
 use Rattle.agree.proofs.Agree.{tagged-silent, tagged-message, lowest-silent, lowest-message, typed, low-is, low-first, forward, backward}
 use Rattle.engine.specs.Design.{stepOf}
 use Rattle.first_step.specs.First.{Found, none, found, isWait, first}
@@ -43,89 +43,89 @@ module _ (s t : Step) (x y : ℕ) (f : Earlier (withSource s x) t → ⊥) (g : 
   not-after : EarlierMessage (withSource t y) s → ⊥
   not-after e = g (message (sym same-board) (sym same-rule) e)
 
-module _ (d : Design) (K : Kept d) (w v : List ℕ) (X : Pictured d w v) where
-  -- ---- the first steps of both forms are translations of each other
-  module _ (s t : Step) (a : stepFault 0 d w s ≡ 0) (b : stepFault 1 d v t ≡ 0) where
+module _ (j : ℕ) (d : Design) (K : Kept d) (w v : List ℕ) (X : Pictured j d w v) where
+  -- ---- the first steps of the two forms are translations of each other
+  module _ (s t : Step) (a : stepFault j d w s ≡ 0) (b : stepFault (suc j) d v t ≡ 0) where
     both-silent : silent s ≡ true → silent t ≡ true → (Earlier s t → ⊥) → (Earlier t s → ⊥) → s ≡ t
     both-silent e h f g =
         sym (silent-is s e) ∙ ap₂ (λ (p r : ℕ). stepOf p r 255 255) (same-board s t (s .source) (t .source) f g) (same-rule s t (s .source) (t .source) f g) ∙ silent-is t h
 
-    both-messages : silent s ≡ false → silent t ≡ false → (Earlier (withSource s (tagOf (d .boards) (s .source))) t → ⊥) → (Earlier (withSource t (lowSender d w t)) s → ⊥)
-        → s ≡ withSource t (lowSender d w t)
+    both-messages : silent s ≡ false → silent t ≡ false → (Earlier (withSource s (tagOf j (d .boards) (s .source))) t → ⊥) → (Earlier (withSource t (lowSender j d w t)) s → ⊥)
+        → s ≡ withSource t (lowSender j d w t)
     both-messages e h f g =
-        let x = tagOf (d .boards) (s .source) in
-        let y = lowSender d w t in
-        let A = accepted 0 d w s a .arrives in
-        let B = accepted 1 d v t b .arrives in
+        let x = tagOf j (d .boards) (s .source) in
+        let y = lowSender j d w t in
+        let A = accepted j d w s a .arrives in
+        let B = accepted (suc j) d v t b .arrives in
         let n = typed (d .types) s x (K .few) (A .named e .type) in
         let o = typed (d .types) t y (K .few) (B .named h .type) in
         let p = same-board s t x y f g in
         let r = same-rule s t x y f g in
         let m : s .type ≡ t .type = neither _ _ (λ l. not-before s t x y f g (lowerType n h l)) (λ l. not-after s t x y f g (lowerType o e l)) in
-        let S = low-is d K w v X t B h in
+        let S = low-is j d K w v X t B h in
         let tag : x ≡ t .source = neither _ _ (λ l. not-before s t x y f g (lowerSource n h m l)) (λ l. above l (S .tags) (λ u. not-after s t x y f g (lowerSource o e (sym m) u))) in
-        let moving = sym (λ i. columnOf 0 d .inTransit (s .source) (rcvdOf 0 d w (p i) (m i)) (sentOf 0 d w (m i))) ∙ A .transit e in
-        let q : s .source ≡ y = neither _ _ (λ l. low-first d K w v X t (s .source) l tag moving) (λ l. not-after s t x y f g (lowerSource o e (sym m) l)) in
+        let moving = sym (λ i. columnOf j d .inTransit (s .source) (rcvdOf j d w (p i) (m i)) (sentOf j d w (m i))) ∙ A .transit e in
+        let q : s .source ≡ y = neither _ _ (λ l. low-first j d K w v X t (s .source) l tag moving) (λ l. not-after s t x y f g (lowerSource o e (sym m) l)) in
         λ i. record { board = p i; rule = r i; type = m i; source = q i }
       where
         -- the tag of who is not above the lowest sender is not above its tag
-        above : t .source < tagOf (d .boards) (s .source) → tagOf (d .boards) (lowSender d w t) ≡ t .source → (lowSender d w t < s .source → ⊥) → ⊥
-        above l z u = omega (arith, tag-grows (d .boards) (s .source) (lowSender d w t) (omega arith))
+        above : t .source < tagOf j (d .boards) (s .source) → tagOf j (d .boards) (lowSender j d w t) ≡ t .source → (lowSender j d w t < s .source → ⊥) → ⊥
+        above l z u = omega (arith, picture-laws (d .boards) (d .faulty) j .grows (s .source) (lowSender j d w t) (omega arith))
 
-    same : (Earlier (tagged d s) t → ⊥) → (Earlier (lowest d w t) s → ⊥) → s ≡ lowest d w t
+    same : (Earlier (tagged j d s) t → ⊥) → (Earlier (lowest j d w t) s → ⊥) → s ≡ lowest j d w t
     same f g = go (silent s) (silent t) refl refl
       where
-        go : (x y : Bool) → silent s ≡ x → silent t ≡ y → s ≡ lowest d w t
-        go true true e h = both-silent e h (along t (tagged-silent d s e) f) (along s (lowest-silent d w t h) g) ∙ sym (lowest-silent d w t h)
-        go true false e h = absurd (not-before s t _ _ (along t (tagged-silent d s e) f) (along s (lowest-message d w t h) g) (noMessage e h))
-        go false true e h = absurd (not-after s t _ _ (along t (tagged-message d s e) f) (along s (lowest-silent d w t h) g) (noMessage h e))
-        go false false e h = both-messages e h (along t (tagged-message d s e) f) (along s (lowest-message d w t h) g) ∙ sym (lowest-message d w t h)
+        go : (x y : Bool) → silent s ≡ x → silent t ≡ y → s ≡ lowest j d w t
+        go true true e h = both-silent e h (along t (tagged-silent j d s e) f) (along s (lowest-silent j d t w h) g) ∙ sym (lowest-silent j d t w h)
+        go true false e h = absurd (not-before s t _ _ (along t (tagged-silent j d s e) f) (along s (lowest-message j d t w h) g) (noMessage e h))
+        go false true e h = absurd (not-after s t _ _ (along t (tagged-message j d s e) f) (along s (lowest-silent j d t w h) g) (noMessage h e))
+        go false false e h = both-messages e h (along t (tagged-message j d s e) f) (along s (lowest-message j d t w h) g) ∙ sym (lowest-message j d t w h)
 
   -- ---- a translation of a wait is a wait, and of no other step
-  wait-tagged : (s : Step) → stepFault 0 d w s ≡ 0 → isWait d (tagged d s) ≡ isWait d s
+  wait-tagged : (s : Step) → stepFault j d w s ≡ 0 → isWait d (tagged j d s) ≡ isWait d s
   wait-tagged s z = go (silent s) refl
     where
-      go : (b : Bool) → silent s ≡ b → isWait d (tagged d s) ≡ isWait d s
-      go true e = ap (isWait d) (tagged-silent d s e)
-      go false e = ap (isWait d) (tagged-message d s e) ∙ rw (typed (d .types) s (tagOf (d .boards) (s .source)) (K .few) (accepted 0 d w s z .arrives .named e .type), e)
+      go : (b : Bool) → silent s ≡ b → isWait d (tagged j d s) ≡ isWait d s
+      go true e = ap (isWait d) (tagged-silent j d s e)
+      go false e = ap (isWait d) (tagged-message j d s e) ∙ rw (typed (d .types) s (tagOf j (d .boards) (s .source)) (K .few) (accepted j d w s z .arrives .named e .type), e)
 
-  wait-lowest : (t : Step) → stepFault 1 d v t ≡ 0 → isWait d (lowest d w t) ≡ isWait d t
+  wait-lowest : (t : Step) → stepFault (suc j) d v t ≡ 0 → isWait d (lowest j d w t) ≡ isWait d t
   wait-lowest t z = go (silent t) refl
     where
-      go : (b : Bool) → silent t ≡ b → isWait d (lowest d w t) ≡ isWait d t
-      go true e = ap (isWait d) (lowest-silent d w t e)
-      go false e = ap (isWait d) (lowest-message d w t e) ∙ rw (typed (d .types) t (lowSender d w t) (K .few) (accepted 1 d v t z .arrives .named e .type), e)
+      go : (b : Bool) → silent t ≡ b → isWait d (lowest j d w t) ≡ isWait d t
+      go true e = ap (isWait d) (lowest-silent j d t w e)
+      go false e = ap (isWait d) (lowest-message j d t w e) ∙ rw (typed (d .types) t (lowSender j d w t) (K .few) (accepted (suc j) d v t z .arrives .named e .type), e)
 
-  both-found : (s t : Step) → first 0 d w ≡ found s → first 1 d v ≡ found t → s ≡ lowest d w t
+  both-found : (s t : Step) → first j d w ≡ found s → first (suc j) d v ≡ found t → s ≡ lowest j d w t
   both-found s t h k =
-      let F = first-possible 0 d w in
-      let G = first-possible 1 d v in
+      let F = first-possible j d w in
+      let G = first-possible (suc j) d v in
       let a = F .accepted s h in
       let b = G .accepted t k in
       same s t a b
-      (λ l. true≢false (sym (G .earliest t k (tagged d s) l (forward d K w v X s a .accepted)) ∙ wait-tagged s a ∙ F .no-wait s h))
-      (λ l. true≢false (sym (F .earliest s h (lowest d w t) l (backward d K w v X t b .accepted)) ∙ wait-lowest t b ∙ G .no-wait t k))
+      (λ l. true≢false (sym (G .earliest t k (tagged j d s) l (forward j d K w v X s a .accepted)) ∙ wait-tagged s a ∙ F .no-wait s h))
+      (λ l. true≢false (sym (F .earliest s h (lowest j d w t) l (backward j d K w v X t b .accepted)) ∙ wait-lowest t b ∙ G .no-wait t k))
 
   -- where one form has a step, the other has one
-  none-there : first 0 d w ≡ none → first 1 d v ≡ none
-  none-there h = first-possible 1 d v .nothing-else (λ t b. sym (wait-lowest t b) ∙ first-possible 0 d w .none-possible h (lowest d w t) (backward d K w v X t b .accepted))
+  none-there : first j d w ≡ none → first (suc j) d v ≡ none
+  none-there h = first-possible (suc j) d v .nothing-else (λ t b. sym (wait-lowest t b) ∙ first-possible j d w .none-possible h (lowest j d w t) (backward j d K w v X t b .accepted))
 
-  none-back : first 1 d v ≡ none → first 0 d w ≡ none
-  none-back h = first-possible 0 d w .nothing-else (λ s a. sym (wait-tagged s a) ∙ first-possible 1 d v .none-possible h (tagged d s) (forward d K w v X s a .accepted))
+  none-back : first (suc j) d v ≡ none → first j d w ≡ none
+  none-back h = first-possible j d w .nothing-else (λ s a. sym (wait-tagged s a) ∙ first-possible (suc j) d v .none-possible h (tagged j d s) (forward j d K w v X s a .accepted))
 
-  there : (s : Step) → first 0 d w ≡ found s → first 1 d v ≡ found (tagged d s)
-  there s h = go (first 1 d v) refl
+  there : (s : Step) → first j d w ≡ found s → first (suc j) d v ≡ found (tagged j d s)
+  there s h = go (first (suc j) d v) refl
     where
-      go : (x : Found) → first 1 d v ≡ x → first 1 d v ≡ found (tagged d s)
+      go : (x : Found) → first (suc j) d v ≡ x → first (suc j) d v ≡ found (tagged j d s)
       go none e = clash s (sym (none-back e) ∙ h)
-      go (found t) e = e ∙ ap found (sym (ap (tagged d) (both-found s t h e) ∙ backward d K w v X t (first-possible 1 d v .accepted t e) .trip))
+      go (found t) e = e ∙ ap found (sym (ap (tagged j d) (both-found s t h e) ∙ backward j d K w v X t (first-possible (suc j) d v .accepted t e) .trip))
 
-  back : (t : Step) → first 1 d v ≡ found t → first 0 d w ≡ found (lowest d w t)
-  back t h = go (first 0 d w) refl
+  back : (t : Step) → first (suc j) d v ≡ found t → first j d w ≡ found (lowest j d w t)
+  back t h = go (first j d w) refl
     where
-      go : (x : Found) → first 0 d w ≡ x → first 0 d w ≡ found (lowest d w t)
+      go : (x : Found) → first j d w ≡ x → first j d w ≡ found (lowest j d w t)
       go none e = clash t (sym (none-there e) ∙ h)
       go (found s) e = e ∙ ap found (both-found s t e h)
 
-  pub first-agreed : FirstAgreed d w v
+  pub first-agreed : FirstAgreed j d w v
   first-agreed = record { there = there; back = back; none-there = none-there; none-back = none-back }

@@ -1,6 +1,7 @@
 pub mod Figures
 pub mod Demand2
 pub mod Agreed
+pub mod Plain
 pub mod FirstStep
 pub mod FirstAgreed
 pub mod Demand3

@@ -9,11 +9,13 @@ pub one-answer : OneAnswer
 one-answer = record {
   run = λ κs a r r′ s s′ p q. (both (p .0) (q .0), both (p .1) (q .1));
   translate = λ κs a r r′ s s′ p q. (both (p .0) (q .0), both (p .1) (q .1));
+  translate-to = λ κs a r r′ s s′ p q. (both (p .0) (q .0), both (p .1) (q .1));
   first-step = λ κs a r r′ s s′ p q. both p q;
   draw = λ κs a r r′ s s′ p q. (both (p .0) (q .0), both (p .1) (q .1));
   undraw = λ κs a r r′ s s′ p q. (both (p .0) (q .0), both (p .1) (q .1));
   c-run = λ κs a r r′ s s′ p q. (both (p .0) (q .0), both (p .1) (q .1));
   c-translate = λ κs a r r′ s s′ p q. (both (p .0) (q .0), both (p .1) (q .1));
+  c-translate-to = λ κs a r r′ s s′ p q. (both (p .0) (q .0), both (p .1) (q .1));
   c-first-step = λ κs a r r′ s s′ p q. both p q;
   c-draw = λ κs a r r′ s s′ p q. (both (p .0) (q .0), both (p .1) (q .1));
   c-undraw = λ κs a r r′ s s′ p q. (both (p .0) (q .0), both (p .1) (q .1));

@@ -1,4 +1,4 @@
--- Demand 2: a step is accepted, in either form, exactly when the paper's relation holds for it, and the configuration
+-- Demand 2: a step is accepted, in each form, exactly when the paper's relation holds for it, and the configuration
 -- afterwards is the one that the relation gives; for runs, after each accepted step. Proofs: proofs/Demand2.antt.
 use mathlib.Core.Path.{_≡_}
 use mathlib.Core.List.{List}

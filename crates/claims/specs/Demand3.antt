@@ -1,19 +1,23 @@
--- Demand 3, for bundles as the calls see them: if a schedule runs, its translation is written and runs, with equal board states,
--- counts and sent counts after every step, and counting to message form and back returns the same bytes; what running refuses,
--- translation refuses with the same number and place. Proofs: proofs/Demand3.antt.
+-- Demand 3, for bundles as the calls see them: if a schedule runs, its translation to each other form is written and runs, with equal
+-- board states, counts (or sums of them) and sent counts after every step; from a coarser form to a finer one and back are the same
+-- bytes; what running refuses, translation refuses with the same number and place. Proofs: proofs/Demand3.antt.
 use mathlib.Core.Path.{_≡_}
+use mathlib.Core.Bool.{true, false}
 use mathlib.Core.List.{List, _++_}
-use Prim.Native.Nat.{ℕ, zero, suc, _-_, _≤_}
+use Prim.Native.Nat.{ℕ, suc, _≤_, _<_}
 use lib.ListN.{length, drop}
+use Rattle.fault.specs.Fault.{refused, nothingDone}
+use Rattle.fault.specs.declared.Answer.{Answer}
 use Rattle.bundle.specs.Bundle.{nOf, tOf, fOf, formOf, tableInUse, startsOf}
 use Rattle.bundle.specs.Refusals.{readFault}
-use Rattle.paper.specs.Paper.{Design, Step}
+use Rattle.paper.specs.Paper.{Design}
+use Rattle.paper.specs.Words.{state}
+use Rattle.paper.specs.Step.{columnOf, sentOf, countOf}
 use Rattle.paper.specs.Run.{after}
 use Rattle.agree.specs.Translation.{tagged, lowest}
 use Rattle.agree.specs.Picture.{Pictured}
-use Rattle.fault.specs.declared.Answer.{Answer}
 use Rattle.engine.specs.Entry.{designIn, startOf, scheduleOf, ranOf, runAnswer}
-use Rattle.translate.specs.Entry.{translationOf, translateAnswer, translateBytes}
+use Rattle.translate.specs.Entry.{translationOf, noOther, translateToAnswer, translateToBytes, usual, translateAnswer}
 use Rattle.first_step.specs.First.{Found, none, found, first}
 use Rattle.first_step.specs.Entry.{answerOf, firstAnswer}
 
@@ -26,26 +30,17 @@ pub record Runs (b standing : List ℕ) : Type 0 where
 abbrev pub afterIn : List ℕ → List ℕ → ℕ → List ℕ
 afterIn b standing i = after (formOf b) (designIn b standing) (startOf (tableInUse b standing) b) (scheduleOf b) i
 
--- of two words, those of a bundle of form k and those of its translation: the ones in message form, and the ones in counting form
-abbrev pub inMessage : ℕ → List ℕ → List ℕ → List ℕ
-inMessage zero own other = own
-inMessage (suc k) own other = other
+-- words w of form i and words v of form k: equal states, equal counts of each type, whatever they are made of, equal sent counts
+pub record Alike (d : Design) (i : ℕ) (w : List ℕ) (k : ℕ) (v : List ℕ) : Type 0 where
+  pub states : (p : ℕ) → p < d .boards → state w p ≡ state v p
+  pub counts : (p m : ℕ) → p < d .boards → m < d .types → countOf i d w p m ≡ countOf k d v p m
+  pub sents : (m : ℕ) → m < d .types → columnOf i d .card (sentOf i d w m) ≡ columnOf k d .card (sentOf k d v m)
 
-abbrev pub inCounting : ℕ → List ℕ → List ℕ → List ℕ
-inCounting zero own other = other
-inCounting (suc k) own other = own
-
--- the first step of form k, translated as one step more would be; w are the words in message form
-abbrev pub movedFound : ℕ → Design → List ℕ → Found → Found
-movedFound k d w none = none
-movedFound zero d w (found s) = found (tagged d s)
-movedFound (suc k) d w (found s) = found (lowest d w s)
-
--- ---- a bundle b that runs, and its translation c
-pub record Translated (b standing c : List ℕ) : Type 0 where
+-- ---- a bundle b that runs, and its translation c to the form k
+pub record Translated (b standing : List ℕ) (k : ℕ) (c : List ℕ) : Type 0 where
   -- it is written into any bytes that are enough, and the bytes past it stay
-  pub answered : (lent : ℕ) → length b ≤ lent → translateAnswer b standing lent ≡ record { refusal = 0; place = 0; count = length b }
-  pub written : (out : List ℕ) → length b ≤ length out → translateBytes b standing out ≡ c ++ drop (length b) out
+  pub answered : (lent : ℕ) → length b ≤ lent → translateToAnswer b standing k lent ≡ record { refusal = 0; place = 0; count = length b }
+  pub written : (out : List ℕ) → length b ≤ length out → translateToBytes b standing k out ≡ c ++ drop (length b) out
   -- same length, same table, starts and n, t, f; the form changes
   pub long : length c ≡ length b
   pub table : tableInUse c standing ≡ tableInUse b standing
@@ -53,29 +48,48 @@ pub record Translated (b standing c : List ℕ) : Type 0 where
   pub n : nOf c ≡ nOf b
   pub t : tOf c ≡ tOf b
   pub f : fOf c ≡ fOf b
-  pub form : formOf c ≡ 1 - formOf b
-  -- it runs to its end
+  pub form : formOf c ≡ k
+  -- it runs to its end, alike after every number of steps
   pub runs : Runs c standing
-  -- after every number of steps the counting words are the count picture of the message words
-  pub each : (i : ℕ) → Pictured (designIn b standing)
-      (inMessage (formOf b) (afterIn b standing i) (afterIn c standing i))
-      (inCounting (formOf b) (afterIn b standing i) (afterIn c standing i))
-  -- from counting form to message form and back: the same bytes
-  pub back : formOf b ≡ 1 → translationOf c standing ≡ b
-  -- its first possible step is the bundle's own, translated, or both have none
-  pub first : firstAnswer c standing
-      ≡ answerOf (movedFound (formOf b) (designIn b standing) (inMessage (formOf b) (ranOf b standing .words) (ranOf c standing .words)) (first (formOf b) (designIn b standing) (ranOf b standing .words)))
+  pub alike : (i : ℕ) → Alike (designIn b standing) (formOf b) (afterIn b standing i) k (afterIn c standing i)
+  -- to a finer form and back: the same bytes
+  pub back : k < formOf b → translationOf c standing (formOf b) ≡ b
 
--- ---- a bundle that running refuses, with the answer a
-pub record Refuses (b standing out : List ℕ) (a : Answer) : Type 0 where
-  pub answer : translateAnswer b standing (length out) ≡ record { refusal = a .refusal; place = a .place; count = 0 }
-  pub bytes : translateBytes b standing out ≡ out
+-- ---- a bundle that runs in form j, as c, and in form j + 1, as e: the picture of the paper, after every number of steps, and the same
+-- first possible step, translated as one step more would be, or none in both
+abbrev pub taggedFound : ℕ → Design → Found → Found
+taggedFound j d none = none
+taggedFound j d (found s) = found (tagged j d s)
+
+abbrev pub lowestFound : ℕ → Design → List ℕ → Found → Found
+lowestFound j d w none = none
+lowestFound j d w (found s) = found (lowest j d w s)
+
+pub record Neighbours (j : ℕ) (d : Design) (standing c e : List ℕ) : Type 0 where
+  pub pictured : (i : ℕ) → Pictured j d (afterIn c standing i) (afterIn e standing i)
+  pub first-there : firstAnswer e standing ≡ answerOf (taggedFound j d (first j d (ranOf c standing .words)))
+  pub first-back : firstAnswer c standing ≡ answerOf (lowestFound j d (ranOf c standing .words) (first (suc j) d (ranOf e standing .words)))
+
+-- ---- a bundle that is refused, with the answer a
+pub record Refuses (b standing : List ℕ) (k : ℕ) (out : List ℕ) (a : Answer) : Type 0 where
+  pub answer : translateToAnswer b standing k (length out) ≡ record { refusal = a .refusal; place = a .place; count = 0 }
+  pub bytes : translateToBytes b standing k out ≡ out
 
 pub record Demand3 : Type 0 where
-  pub translated : (b standing : List ℕ) → Runs b standing → Translated b standing (translationOf b standing)
+  pub translated : (b standing : List ℕ) (k : ℕ) → Runs b standing → noOther b k ≡ false → Translated b standing k (translationOf b standing k)
+  -- in its own form a bundle is itself; so these are the bundle and its translations, in all forms that there are
+  pub own : (b standing : List ℕ) → Runs b standing → translationOf b standing (formOf b) ≡ b
+  pub neighbours : (b standing : List ℕ) (j : ℕ) → Runs b standing → j ≤ 1 → Neighbours j (designIn b standing) standing (translationOf b standing j) (translationOf b standing (suc j))
+  -- 31 comes after what reading refuses, and before 30 and the steps
+  pub no-other : (b standing : List ℕ) (k : ℕ) (out : List ℕ) → readFault b standing .number ≡ 0 → noOther b k ≡ true → Refuses b standing k out (nothingDone (refused 31))
   -- 580 words are enough for every bundle (64 states, 64 · 4 pairs of counts, 4 sent): it runs exactly when `run` refuses nothing
   pub runs : (b standing : List ℕ) (lent : ℕ) → 580 ≤ lent → runAnswer b standing lent .refusal ≡ 0 → Runs b standing
   pub runs-all : (b standing : List ℕ) (lent : ℕ) → 580 ≤ lent → Runs b standing → runAnswer b standing lent .refusal ≡ 0
-  pub refused : (b standing out : List ℕ) (lent : ℕ) → 580 ≤ lent → length b ≤ length out → (runAnswer b standing lent .refusal ≡ 0 → ⊥) → Refuses b standing out (runAnswer b standing lent)
+  pub refused : (b standing : List ℕ) (k : ℕ) (out : List ℕ) (lent : ℕ) → 580 ≤ lent → length b ≤ length out → noOther b k ≡ false → (runAnswer b standing lent .refusal ≡ 0 → ⊥)
+      → Refuses b standing k out (runAnswer b standing lent)
   -- any refusal, also for want of room, writes nothing
-  pub untouched : (b standing out : List ℕ) → (translateAnswer b standing (length out) .refusal ≡ 0 → ⊥) → (translateBytes b standing out ≡ out) × (translateAnswer b standing (length out) .count ≡ 0)
+  pub untouched : (b standing : List ℕ) (k : ℕ) (out : List ℕ) → (translateToAnswer b standing k (length out) .refusal ≡ 0 → ⊥)
+      → (translateToBytes b standing k out ≡ out) × (translateToAnswer b standing k (length out) .count ≡ 0)
+  -- the usual form is another one
+  pub usual-other : (b : List ℕ) → noOther b (usual b) ≡ false
+  pub never-31 : (b standing : List ℕ) (lent : ℕ) → translateAnswer b standing lent .refusal ≡ 31 → ⊥

@@ -1,4 +1,4 @@
--- The outline's figures that are proved (marked P), and those of Q-1's drawings, as one list of cases and one claim: that each of them holds.
+-- The outline's figures that are proved (marked P), and those of later requests, as one list of cases and one claim: that each of them holds.
 use mathlib.Core.Path.{_≡_}
 use mathlib.Core.List.{List, [], _∷_, _++_}
 use Prim.Native.Nat.{ℕ, _+_}
@@ -10,12 +10,12 @@ use Rattle.table.specs.Table.{coefficientsAt}
 use Rattle.bundle.specs.Refusals.{readFault}
 use Rattle.engine.specs.Design.{thresholdAt}
 use Rattle.engine.specs.Entry.{runAnswer, runWords}
-use Rattle.translate.specs.Entry.{translateAnswer, translateBytes}
+use Rattle.translate.specs.Entry.{translateAnswer, translateBytes, translateToAnswer, translateToBytes}
 use Rattle.first_step.specs.declared.First.{First}
 use Rattle.first_step.specs.Entry.{firstAnswer}
 use Rattle.dot.specs.Numbers.{text}
 use Rattle.drawing.specs.Entry.{drawAnswer, drawBytes, undrawAnswer, undrawBytes}
-use Rattle.echo.specs.Echo.{echo, fiveSteps, W, WCounting}
+use Rattle.echo.specs.Echo.{echo, fiveSteps, W, WCounting, WPlain}
 
 pub data Case : Type 0 where
   -- coefficients a, b, d at n and t come to the threshold z
@@ -28,6 +28,8 @@ pub data Case : Type 0 where
   runs : List ℕ → List ℕ → ℕ → ℕ → ℕ → List ℕ → Case
   -- a translation of a bundle beside a standing table answers refusal, place and bytes written, and leaves these bytes in as many lent ones
   translates : List ℕ → List ℕ → ℕ → ℕ → ℕ → List ℕ → Case
+  -- the same, to a form that is asked for
+  translatesTo : List ℕ → List ℕ → ℕ → ℕ → ℕ → ℕ → List ℕ → Case
   -- the first-step question on a bundle beside a standing table has this answer
   firstOf : List ℕ → List ℕ → First → Case
   -- drawing a table answers refusal, place and bytes written, and leaves these bytes in as many lent ones; and so undrawing a text
@@ -42,6 +44,8 @@ Holds (runs b standing k p i words) =
     (runAnswer b standing (length words) ≡ record { refusal = k; place = p; count = i }) × (runWords b standing (replicate (length words) 9) ≡ words)
 Holds (translates b standing k p n bytes) =
     (translateAnswer b standing (length bytes) ≡ record { refusal = k; place = p; count = n }) × (translateBytes b standing (replicate (length bytes) 9) ≡ bytes)
+Holds (translatesTo b standing form k p n bytes) =
+    (translateToAnswer b standing form (length bytes) ≡ record { refusal = k; place = p; count = n }) × (translateToBytes b standing form (replicate (length bytes) 9) ≡ bytes)
 Holds (firstOf b standing answer) = firstAnswer b standing ≡ answer
 Holds (draws s k p n bytes) =
     (drawAnswer s (length bytes) ≡ record { refusal = k; place = p; count = n }) × (drawBytes s (replicate (length bytes) 9) ≡ bytes)
@@ -127,7 +131,7 @@ cases =
     runs (schedule (1 ∷ []) (0 ∷ 3 ∷ 255 ∷ 255 ∷ 0 ∷ 5 ∷ 0 ∷ 0 ∷ []) 1 0 0) echo 0 0 2 (3 ∷ 1 ∷ 1 ∷ []) ∷
     -- two correct echoes were sent and heard: a third is not in transit, whatever room a faulty one has
     runs (scheduleIn 1 (1 ∷ 1 ∷ 1 ∷ []) (0 ∷ 3 ∷ 255 ∷ 255 ∷ 2 ∷ 3 ∷ 0 ∷ 0 ∷ 2 ∷ 4 ∷ 0 ∷ 0 ∷ 2 ∷ 4 ∷ 0 ∷ 0 ∷ []) 4 1 1) echo 24 3 3 (2 ∷ 1 ∷ 2 ∷ 0 ∷ 0 ∷ 0 ∷ 0 ∷ 2 ∷ 0 ∷ 2 ∷ []) ∷
-    -- after W the first possible step is 00 04 00 00 (Q-2), in both forms; after P5's refusal there is none
+    -- after W the first possible step is 00 04 00 00 (Q-2), also in counting form; after P5's refusal there is none
     firstOf W echo (First.Step 0 4 0 0) ∷
     firstOf WCounting echo (First.Step 0 4 0 0) ∷
     firstOf (fiveSteps 0 3 0 0) echo (First.Refused 24 4) ∷
@@ -156,6 +160,31 @@ cases =
     refuses (text "digraph t{T=1;k=3;}") 2 0 ∷
     refuses (text "digraph t{T=0;k=3;s0[label=\"1 0\"];s0->s0[label=\"\"];}") 2 0 ∷
     refuses (text "digraph t{T=1;k=3;s0[label=\"1 0\"];s1[label=\"4 0\"];s0->s0[label=\"0 0 0\"];}") 4 1 ∷
-    -- Q-2: one board alone has sent, heard itself and accepted; it can only wait, in either form
+    -- Q-4: W in plain form, from both others; it comes back with the correct tag where that is in transit, which it is each time
+    runs WPlain echo 0 0 5 (2 ∷ 2 ∷ 3 ∷ 0 ∷ 0 ∷ 3 ∷ 3 ∷ []) ∷
+    translatesTo W echo 2 0 0 31 WPlain ∷
+    translatesTo WCounting echo 2 0 0 31 WPlain ∷
+    translatesTo WPlain echo 1 0 0 31 (fiveSteps 0 0 0 1) ∷
+    translatesTo WPlain echo 0 0 0 31 (fiveSteps 0 1 2 0 ++ (9 ∷ [])) ∷
+    translates WPlain echo 0 0 31 (fiveSteps 0 0 0 1) ∷
+    firstOf WPlain echo (First.Step 0 4 0 0) ∷
+    -- with two sent, board 0 hears two by the correct tag and a third by the faulty one
+    translatesTo (scheduleIn 2 (1 ∷ 1 ∷ 1 ∷ []) (0 ∷ 3 ∷ 255 ∷ 255 ∷ 1 ∷ 3 ∷ 0 ∷ 0 ∷ 0 ∷ 4 ∷ 0 ∷ 0 ∷ 0 ∷ 4 ∷ 0 ∷ 0 ∷ 0 ∷ 4 ∷ 0 ∷ 0 ∷ []) 4 1 1) echo 1 0 0 31
+    (scheduleIn 1 (1 ∷ 1 ∷ 1 ∷ []) (0 ∷ 3 ∷ 255 ∷ 255 ∷ 1 ∷ 3 ∷ 0 ∷ 0 ∷ 0 ∷ 4 ∷ 0 ∷ 0 ∷ 0 ∷ 4 ∷ 0 ∷ 0 ∷ 0 ∷ 4 ∷ 0 ∷ 1 ∷ []) 4 1 1) ∷
+    -- with one sent, it hears two, sent plus f, and no third
+    runs (scheduleIn 2 (1 ∷ 1 ∷ 1 ∷ []) (0 ∷ 3 ∷ 255 ∷ 255 ∷ 0 ∷ 4 ∷ 0 ∷ 0 ∷ 0 ∷ 4 ∷ 0 ∷ 0 ∷ 0 ∷ 4 ∷ 0 ∷ 0 ∷ []) 4 1 1) echo 24 3 3 (2 ∷ 1 ∷ 1 ∷ 2 ∷ 0 ∷ 0 ∷ 1 ∷ []) ∷
+    -- source 1 is none; form 3 is none
+    runs (scheduleIn 2 (1 ∷ 1 ∷ 1 ∷ []) (0 ∷ 3 ∷ 255 ∷ 255 ∷ 0 ∷ 4 ∷ 0 ∷ 1 ∷ []) 4 1 1) echo 23 1 1 (2 ∷ 1 ∷ 1 ∷ 0 ∷ 0 ∷ 0 ∷ 1 ∷ []) ∷
+    reads (scheduleIn 3 (1 ∷ 1 ∷ 1 ∷ []) [] 4 1 1) echo 12 0 ∷
+    -- 31: the present form, and unknown ones, by the whole number; before 30 and a refused step, after 14
+    translatesTo W echo 0 31 0 0 (replicate 31 9) ∷
+    translatesTo W echo 3 31 0 0 (replicate 31 9) ∷
+    translatesTo W echo 4294967297 31 0 0 (replicate 31 9) ∷
+    translatesTo WPlain echo 2 31 0 0 (9 ∷ []) ∷
+    translatesTo (fiveSteps 0 3 0 0) echo 0 31 0 0 (replicate 31 9) ∷
+    translatesTo (schedule (2 ∷ []) [] 1 0 0) echo 0 14 0 0 (9 ∷ []) ∷
+    translatesTo W echo 2 30 0 0 (replicate 30 9) ∷
+    -- Q-2: one board alone has sent, heard itself and accepted; it can only wait, in any form
     firstOf (schedule (1 ∷ []) (0 ∷ 3 ∷ 255 ∷ 255 ∷ 0 ∷ 5 ∷ 0 ∷ 0 ∷ []) 1 0 0) echo First.Nothing ∷
-    firstOf (scheduleIn 1 (1 ∷ []) (0 ∷ 3 ∷ 255 ∷ 255 ∷ 0 ∷ 5 ∷ 0 ∷ 0 ∷ []) 1 0 0) echo First.Nothing ∷ []
+    firstOf (scheduleIn 1 (1 ∷ []) (0 ∷ 3 ∷ 255 ∷ 255 ∷ 0 ∷ 5 ∷ 0 ∷ 0 ∷ []) 1 0 0) echo First.Nothing ∷
+    firstOf (scheduleIn 2 (1 ∷ []) (0 ∷ 3 ∷ 255 ∷ 255 ∷ 0 ∷ 5 ∷ 0 ∷ 0 ∷ []) 1 0 0) echo First.Nothing ∷ []

@@ -1,9 +1,9 @@
 -- The first possible step: none exactly when no step but waits is accepted; what is found is accepted and no wait, and nothing earlier is.
--- And in both forms it is the same step, translated. Proofs: proofs/FirstStep.antt, proofs/FirstAgreed.antt.
+-- And in neighbouring forms it is the same step, translated. Proofs: proofs/FirstStep.antt, proofs/FirstAgreed.antt.
 use mathlib.Core.Path.{_≡_}
 use mathlib.Core.Bool.{true, false}
 use mathlib.Core.List.{List}
-use Prim.Native.Nat.{ℕ, _<_}
+use Prim.Native.Nat.{ℕ, suc, _<_}
 use Rattle.paper.specs.Paper.{Design, Step, silent}
 use Rattle.paper.specs.Step.{stepFault}
 use Rattle.agree.specs.Translation.{tagged, lowest}
@@ -29,9 +29,9 @@ pub record FirstPossible (k : ℕ) (d : Design) (w : List ℕ) : Type 0 where
   pub no-wait : (s : Step) → first k d w ≡ found s → isWait d s ≡ false
   pub earliest : (s : Step) → first k d w ≡ found s → (t : Step) → Earlier t s → stepFault k d w t ≡ 0 → isWait d t ≡ true
 
--- ---- words of sets w and their picture v: the first step of one form is that of the other, translated, or both have none
-pub record FirstAgreed (d : Design) (w v : List ℕ) : Type 0 where
-  pub there : (s : Step) → first 0 d w ≡ found s → first 1 d v ≡ found (tagged d s)
-  pub back : (s : Step) → first 1 d v ≡ found s → first 0 d w ≡ found (lowest d w s)
-  pub none-there : first 0 d w ≡ none → first 1 d v ≡ none
-  pub none-back : first 1 d v ≡ none → first 0 d w ≡ none
+-- ---- words w of form j and their picture v: the first step of one form is that of the other, translated, or both have none
+pub record FirstAgreed (j : ℕ) (d : Design) (w v : List ℕ) : Type 0 where
+  pub there : (s : Step) → first j d w ≡ found s → first (suc j) d v ≡ found (tagged j d s)
+  pub back : (s : Step) → first (suc j) d v ≡ found s → first j d w ≡ found (lowest j d w s)
+  pub none-there : first j d w ≡ none → first (suc j) d v ≡ none
+  pub none-back : first (suc j) d v ≡ none → first j d w ≡ none

@@ -35,3 +35,7 @@ W = fiveSteps 0 3 1 0
 -- W in counting form: correct, faulty, correct
 abbrev pub WCounting : List ℕ
 WCounting = fiveSteps 0 1 0 1
+
+-- W in plain form (Q-4): source 0 is the only one
+abbrev pub WPlain : List ℕ
+WPlain = fiveSteps 0 0 0 2

@@ -76,6 +76,7 @@ fn admitted() {
     schedule(1, 64, 5, 64, 255, 0, 0);
     schedule(3, 3, 5, 4, 1, 1, 1);
     schedule(3, 3, 5, 4, 1, 1, 2);
+    schedule(3, 3, 5, 4, 1, 1, 3);
     schedule(3, 3, 5, 4, 1, 1, 255);
 }
 

@@ -17,9 +17,9 @@ use Rattle.fault.specs.declared.Answer.{Answer}
 use Rattle.engine.specs.Design.{sizesOf, designOf, roomOf}
 use Rattle.engine.specs.Entry.{scheduleOf, startOf, sizesIn, ranWith, ranOf, ranAnswer, runAnswer}
 
--- refusals go to 30, places and a schedule's steps to 4,096; a count to n
+-- refusals go to 31, places and a schedule's steps to 4,096; a count to n
 pub record AnswerWithin (n : ℕ) (a : Answer) : Type 0 where
-  pub refusal : a .refusal ≤ 30
+  pub refusal : a .refusal ≤ 31
   pub place : a .place ≤ 4096
   pub count : a .count ≤ n
 

@@ -38,11 +38,11 @@ module _ (t b : List ℕ) (R : Read t b) where
     rules = refl;
   })
 
-  pub starts-long : {s : Sizes} {ss : List ℕ} → s ≡ sizesOf t b → ss ≡ startsOf b → length ss ≡ s .correct
-  starts-long e f = ap length f ∙ R .parted .starts-long ∙ sym (ap (λ (x : Sizes). x .correct) e)
+  pub starts-long : {c : ℕ} {ss : List ℕ} → c ≡ correctOf b → ss ≡ startsOf b → length ss ≡ c
+  starts-long e f = ap length f ∙ R .parted .starts-long ∙ sym e
 
-  -- the first configuration is small: a state is below 16
-  pub start-holds : {s : Sizes} {ss w : List ℕ} → s ≡ sizesOf t b → ss ≡ startsOf b → w ≡ start (s .types) (wide (s .form)) ss → Holds s 16 w
+  -- the first configuration is small, in any form: a state is below 16
+  pub start-holds : {s : Sizes} {ss w : List ℕ} → s .correct ≡ correctOf b → ss ≡ startsOf b → w ≡ start (s .types) (wide (s .form)) ss → Holds s 16 w
   start-holds {s} {ss} {w} e f g =
       let l = starts-long e f in
       subst⁻¹ (Holds s 16) g (record { fits = length-start (s .correct) (s .types) (wide (s .form)) ss l; small = λ n i. go i (decLt i (s .correct)) l })
@@ -50,7 +50,7 @@ module _ (t b : List ℕ) (R : Read t b) where
       go : (i : ℕ) → Dec (i < s .correct) → length ss ≡ s .correct → getD (start (s .types) (wide (s .form)) ss) i 0 ≤ 16
       go i (no h) l = omega (arith, start-high (s .correct) (s .types) (wide (s .form)) ss l i (omega arith))
       go i (yes h) l =
-          let z : i < correctOf b = rw (ap (λ (x : Sizes). x .correct) e) at h in
+          let z : i < correctOf b = rw e at h in
           let q : getD (start (s .types) (wide (s .form)) ss) i 0 ≡ getD (startsOf b) i 0 = start-low (s .correct) (s .types) (wide (s .form)) ss l i h ∙ ap (λ (x : List ℕ). getD x i 0) f in
           omega (arith, q, R .start i z .state, R .formed .sized .few-states)
 

@@ -68,7 +68,8 @@ sent-in-room s m h = omega arith
 pub coll-two : (k C f : ℕ) (g : ℕ → ℕ) → coll k C f (two (g 0) (g (slot k 1))) ≡ coll k C f g
 unfolding coll slot
 coll-two zero C f g = refl
-coll-two (suc k) C f g = refl
+coll-two (suc zero) C f g = refl
+coll-two (suc (suc k)) C f g = refl
 
 pub coll-words : (k C f T p m : ℕ) (w : List ℕ) {i j : ℕ} → i ≡ cellAt C T (wide k) p m 0 → j ≡ i + slot k 1
     → coll k C f (two (getD w i 0) (getD w j 0)) ≡ coll k C f (cell C T (wide k) w p m)

@@ -45,6 +45,14 @@ module _ (s : Sizes) (starts : List ℕ) (l : length starts ≡ s .correct) wher
   filled w h f = ext-getD 0 w _ (h ∙ sym (length-start (s .correct) (s .types) (wide (s .form)) starts l)) (λ j b. f j b ∙ start-at j)
 
 -- ---- the loop
+-- a step that is accepted adds 5 at most to a word
+pub holds-on : (s : Sizes) (tab : List ℕ) → Suits s tab → (i : ℕ) (w : List ℕ) (x : Step) → Holds s (16 + 5 * i) w → stepFault (s .form) (designOf s tab) w x ≡ 0
+    → Holds s (16 + 5 * (i + 1)) (stepped (s .form) (designOf s tab) w x)
+holds-on s tab S i w x H z =
+    let G = granted s tab w (x .board) (x .rule) (x .type) (x .source) S z in
+    holds-more s (16 + 5 * i + 5) (16 + 5 * (i + 1)) (stepped (s .form) (designOf s tab) w x) (omega arith)
+    (holds-stepped s tab w (x .board) (x .rule) (x .type) (x .source) (16 + 5 * i) H (S .bounded .types) (omega (arith, G .to, S .formed .sized .few-states)))
+
 pub record SoFar (s : Sizes) (tab w₀ steps : List ℕ) (i : ℕ) (w : List ℕ) : Type 0 where
   pub holds : Holds s (16 + 5 * i) w
   pub running : Running (s .form) (designOf s tab) w₀ (stepsIn steps) i w
@@ -82,11 +90,9 @@ module _ (s : Sizes) (tab w₀ steps : List ℕ) (S : Suits s tab) (H : Holds s 
     so-far-more z =
         let y : stepFault (s .form) d w (recordAt steps i) ≡ 0 = sym e ∙ z in
         let a = recordAt steps i in
-        let G = granted s tab w (a .board) (a .rule) (a .type) (a .source) S y in
         let g : u ≡ stepped (s .form) d w a = f ∙ rw (eq-eqb _ 0 y) in
         record {
-          holds = subst⁻¹ (Holds s (16 + 5 * (i + 1))) g (holds-more s (16 + 5 * i + 5) (16 + 5 * (i + 1)) (stepped (s .form) d w a) (omega arith)
-              (holds-stepped s tab w (a .board) (a .rule) (a .type) (a .source) (16 + 5 * i) (F .holds) (S .bounded .types) (omega (arith, G .to, S .formed .sized .few-states))));
+          holds = subst⁻¹ (Holds s (16 + 5 * (i + 1))) g (holds-on s tab S i w a (F .holds) y);
           running = subst⁻¹ (Running (s .form) d w₀ (stepsIn steps) (i + 1)) (g ∙ ap (stepped (s .form) d w) (sym (step-at n steps i l h)))
               (running-goes (s .form) d w₀ (stepsIn steps) i w (F .running) there (fault-at ∙ z));
         }

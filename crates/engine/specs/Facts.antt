@@ -54,7 +54,7 @@ pub record Kept (s : Sizes) (table e l : List ℕ) : Type 0 where
   pub leasts : LeastsTo s table l (s .rules) 0
 
 -- ---- a configuration
--- the words are as many as a configuration has, and in counting form none is over k
+-- the words are as many as a configuration has, and in the forms that count none is over k
 pub record Holds (s : Sizes) (k : ℕ) (w : List ℕ) : Type 0 where
   pub fits : length w ≡ roomOf s
   pub small : (s .form ≡ 0 → ⊥) → (i : ℕ) → getD w i 0 ≤ k

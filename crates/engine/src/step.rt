@@ -13,7 +13,7 @@ ghost use Rattle.table.specs.Table.{fromOf, toOf, coefficientsAt};
 ghost use Rattle.paper.specs.Words as words;
 ghost use Rattle.paper.specs.Form as forms;
 ghost use Rattle.paper.specs.Step.{stepFault, stepped};
-ghost use Rattle.engine.specs.Design.{metAt, designOf, stepOf, roomOf};
+ghost use Rattle.engine.specs.Design.{metAt, designOf, stepOf};
 ghost use Rattle.engine.specs.Words.{columnIn, countIn, transitIn, silentBytes, malformedIn};
 ghost use Rattle.engine.specs.Facts.{Bounded, Suits, EndsTo, LeastsTo, Kept, Holds, Leaves};
 use crate::Sizes;
@@ -139,7 +139,7 @@ pub fn silent(m: usize, q: usize) -> bool
 
 // 24
 fn not_in_transit(s: Sizes, w: &[u64], p: usize, m: usize, q: usize) -> bool
-    requires { ⌜ (Bounded s) × (p < s .correct) × (malformedIn s m q ≡ false) × (length (now w) ≡ roomOf s) ⌝ }
+    requires { ⌜ (Bounded s) × (p < s .correct) × (malformedIn s m q ≡ false) × (Holds s 1000000 (now w)) ⌝ }
     ensures { λ b. ⌜ b ≡ (not (silentBytes m q) && not (transitIn s (now (w .entry)) p m q)) ⌝ }
 {
     if silent(m, q) {

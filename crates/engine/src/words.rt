@@ -48,7 +48,7 @@ pub fn count(s: Sizes, w: &[u64], p: usize, m: usize) -> u64
 
 // Is the message of type m from q in transit to board p?
 pub fn in_transit(s: Sizes, w: &[u64], p: usize, m: usize, q: usize) -> bool
-    requires { ⌜ (Bounded s) × (At s p m) × (Source s q) × (length (now w) ≡ roomOf s) ⌝ }
+    requires { ⌜ (Bounded s) × (At s p m) × (Source s q) × (Holds s 1000000 (now w)) ⌝ }
     ensures { λ r. ⌜ r ≡ transitIn s (now (w .entry)) p m q ⌝ }
 {
     let i = cell_at(s, p, m);
@@ -70,7 +70,7 @@ pub fn enter(w: &mut [u64], p: usize, state: u64)
 
 // The lowest source of a message of type m in transit to board p; as many as there are sources where there is none.
 pub fn first_source(s: Sizes, w: &[u64], p: usize, m: usize) -> usize
-    requires { ⌜ (Bounded s) × (At s p m) × (length (now w) ≡ roomOf s) ⌝ }
+    requires { ⌜ (Bounded s) × (At s p m) × (Holds s 1000000 (now w)) ⌝ }
     ensures { λ r. ⌜ r ≡ least (columnIn s .sources) (transitIn s (now (w .entry)) p m) ⌝ }
 {
     let i = cell_at(s, p, m);

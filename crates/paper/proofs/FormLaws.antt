@@ -26,12 +26,14 @@ counts p q = λ i. record { correct = p i; faulty = q i }
 pub wide-some : (k : ℕ) → (1 ≤ wide k) × (wide k ≤ 2)
 unfolding wide
 wide-some zero = (omega arith, omega arith)
-wide-some (suc k) = (omega arith, omega arith)
+wide-some (suc zero) = (omega arith, omega arith)
+wide-some (suc (suc k)) = (omega arith, omega arith)
 
 pub slot-one : (k : ℕ) → slot k 1 < wide k
 unfolding slot wide
 slot-one zero = omega arith
-slot-one (suc k) = omega arith
+slot-one (suc zero) = omega arith
+slot-one (suc (suc k)) = omega arith
 
 module _ (k C f : ℕ) where
   pub slot-below : (q : ℕ) → q < column k C f .sources → slot k q < wide k
@@ -40,7 +42,8 @@ module _ (k C f : ℕ) where
     where
       go : (k : ℕ) → q < column k C f .sources → slot k q < wide k
       go zero h = omega arith
-      go (suc k) h = h
+      go (suc zero) h = h
+      go (suc (suc k)) h = omega arith
 
   pub coll-same : (g g′ : ℕ → ℕ) → ((e : ℕ) → e < wide k → g′ e ≡ g e) → coll k C f g′ ≡ coll k C f g
   unfolding coll wide
@@ -48,7 +51,8 @@ module _ (k C f : ℕ) where
     where
       go : (k : ℕ) → ((e : ℕ) → e < wide k → g′ e ≡ g e) → coll k C f g′ ≡ coll k C f g
       go zero e = e 0 (omega arith)
-      go (suc k) e = counts (e 0 (omega arith)) (e 1 (omega arith))
+      go (suc zero) e = counts (e 0 (omega arith)) (e 1 (omega arith))
+      go (suc (suc k)) e = e 0 (omega arith)
 
   pub coll-inj : (g g′ : ℕ → ℕ) → coll k C f g′ ≡ coll k C f g → (e : ℕ) → e < wide k → g′ e ≡ g e
   unfolding coll wide
@@ -56,7 +60,8 @@ module _ (k C f : ℕ) where
     where
       go : (k : ℕ) → coll k C f g′ ≡ coll k C f g → (e : ℕ) → e < wide k → g′ e ≡ g e
       go zero h = one-word g g′ h
-      go (suc k) h = two-words g g′ (ap (λ (c : Counts). c .correct) h) (ap (λ (c : Counts). c .faulty) h)
+      go (suc (suc k)) h = one-word g g′ h
+      go (suc zero) h = two-words g g′ (ap (λ (c : Counts). c .correct) h) (ap (λ (c : Counts). c .faulty) h)
 
   -- a receipt adds the message
   pub coll-bump : (q : ℕ) (g g′ : ℕ → ℕ) → q < column k C f .sources → g′ (slot k q) ≡ bump k q (g (slot k q))
@@ -67,9 +72,10 @@ module _ (k C f : ℕ) where
       go : (k q : ℕ) → q < column k C f .sources → g′ (slot k q) ≡ bump k q (g (slot k q)) → ((e : ℕ) → e < wide k → e ≢ slot k q → g′ e ≡ g e)
           → coll k C f g′ ≡ column k C f .add q (coll k C f g)
       go zero q h b o = b
-      go (suc k) zero h b o = counts b (o 1 (omega arith) (omega arith))
-      go (suc k) (suc zero) h b o = counts (o 0 (omega arith) (omega arith)) b
-      go (suc k) (suc (suc q)) h b o = absurd (omega arith)
+      go (suc zero) zero h b o = counts b (o 1 (omega arith) (omega arith))
+      go (suc zero) (suc zero) h b o = counts (o 0 (omega arith) (omega arith)) b
+      go (suc zero) (suc (suc q)) h b o = absurd (omega arith)
+      go (suc (suc k)) q h b o = b
 
   -- a send adds the board's own
   pub shown-bump : (p v : ℕ) → shown k C f (bump k (column k C f .own p) v) ≡ column k C f .add (column k C f .own p) (shown k C f v)
@@ -78,7 +84,8 @@ module _ (k C f : ℕ) where
     where
       go : (k : ℕ) → shown k C f (bump k (column k C f .own p) v) ≡ column k C f .add (column k C f .own p) (shown k C f v)
       go zero = refl
-      go (suc k) = refl
+      go (suc zero) = refl
+      go (suc (suc k)) = refl
 
   pub shown-inj : (v v′ : ℕ) → shown k C f v′ ≡ shown k C f v → v′ ≡ v
   unfolding shown
@@ -86,7 +93,8 @@ module _ (k C f : ℕ) where
     where
       go : (k : ℕ) → shown k C f v′ ≡ shown k C f v → v′ ≡ v
       go zero h = h
-      go (suc k) h = ap (λ (c : Counts). c .correct) h
+      go (suc zero) h = ap (λ (c : Counts). c .correct) h
+      go (suc (suc k)) h = h
 
   -- zeros show nothing
   pub coll-init : (g : ℕ → ℕ) → ((e : ℕ) → g e ≡ 0) → coll k C f g ≡ column k C f .init
@@ -95,7 +103,8 @@ module _ (k C f : ℕ) where
     where
       go : (k : ℕ) → coll k C f g ≡ column k C f .init
       go zero = z 0
-      go (suc k) = counts (z 0) (z 1)
+      go (suc zero) = counts (z 0) (z 1)
+      go (suc (suc k)) = z 0
 
   pub shown-init : (v : ℕ) → v ≡ 0 → shown k C f v ≡ column k C f .init
   unfolding shown
@@ -103,7 +112,8 @@ module _ (k C f : ℕ) where
     where
       go : (k : ℕ) → shown k C f v ≡ column k C f .init
       go zero = z
-      go (suc k) = counts z refl
+      go (suc zero) = counts z refl
+      go (suc (suc k)) = z
 
   -- a message in transit counts one more once it is received
   unheld : (a b c e : Bool) → (a && (b && not c) || e && not c) ≡ true → c ≡ false
@@ -124,5 +134,6 @@ module _ (k C f : ℕ) where
       go zero q M S h t =
           count-one-more (C + f) q (mem M) (mem (insert q M)) h (unheld (q below C) (mem S q) (mem M q) (q atLeast C) t)
           (set-laws .insert-same M q) (λ i l o. set-laws .insert-other M q i o)
-      go (suc k) zero M S h t = omega arith
-      go (suc k) (suc q) M S h t = omega arith
+      go (suc zero) zero M S h t = omega arith
+      go (suc zero) (suc q) M S h t = omega arith
+      go (suc (suc k)) q M S h t = refl

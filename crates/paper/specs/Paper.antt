@@ -86,10 +86,23 @@ counting C f = record {
   inTransit = λ tag c c′. eqb tag 0 && c .correct below c′ .correct || eqb tag 1 && c .faulty below f;
 }
 
--- the form's number picks the column: 0 message, 1 counting
+-- the column of Figure 1's own counter, on its right: one count, bounded by sent plus f (Q-4). Source 0 is the only source
+abbrev pub plain : ℕ → ℕ → Interp
+plain C f = record {
+  Coll = ℕ;
+  sources = 1;
+  own = λ p. 0;
+  init = 0;
+  card = λ c. c;
+  add = λ q c. suc c;
+  inTransit = λ q c c′. eqb q 0 && c below c′ + f;
+}
+
+-- the form's number picks the column: 0 message, 1 counting, 2 plain
 abbrev pub column : ℕ → ℕ → ℕ → Interp
 column zero C f = passing C f
-column (suc k) C f = counting C f
+column (suc zero) C f = counting C f
+column (suc (suc k)) C f = plain C f
 
 -- ---- configurations: control states, received messages by board and type, sent messages by type
 pub record Conf (A : Type 0) : Type 0 where

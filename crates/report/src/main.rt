@@ -62,7 +62,7 @@ fn at_most(limit: usize, x: usize) -> usize
     if x < limit { x } else { limit }
 }
 
-// Board, state, then correct and faulty count for each type.
+// Board, state, then the counts of each type.
 fn print_board(form: usize, correct: usize, faulty: usize, types: usize, words: &[u64], p: usize)
     requires { ⌜ (faulty + correct ≤ 64) × (types ≤ 4) × (p < 64) ⌝ }
 {
@@ -70,11 +70,21 @@ fn print_board(form: usize, correct: usize, faulty: usize, types: usize, words: 
     print_next(p as u64);
     print_next(word(words, p));
     for m in 0..types {
-        let cell = fault::times(p, types) + m;
-        print_next(correct_count(form, correct, words, cell));
-        print_next(faulty_count(form, correct, faulty, words, cell));
+        print_cell(form, correct, faulty, words, fault::times(p, types) + m);
     }
     end_line();
+}
+
+// Correct and faulty count, or the one of a plain counter.
+fn print_cell(form: usize, correct: usize, faulty: usize, words: &[u64], cell: usize)
+    requires { ⌜ (faulty + correct ≤ 64) × (cell < 5000000000) ⌝ }
+{
+    if form == 2 {
+        print_next(word(words, correct + cell));
+        return;
+    }
+    print_next(correct_count(form, correct, words, cell));
+    print_next(faulty_count(form, correct, faulty, words, cell));
 }
 
 // One count for each type.
@@ -88,13 +98,16 @@ fn print_sent(form: usize, correct: usize, types: usize, words: &[u64])
     end_line();
 }
 
-// How many boards have sent a type: of a set, or its word.
+// How many boards have sent a type: of a set, or its word after cells of one word or two.
 fn sent_count(form: usize, correct: usize, types: usize, words: &[u64], m: usize) -> u64
     requires { ⌜ (correct ≤ 64) × (types ≤ 4) × (m < 4) ⌝ }
 {
     let cells = fault::times(correct, types);
     if form == 0 {
         return senders::correct_count(word(words, correct + cells + m), correct as u64);
+    }
+    if form == 2 {
+        return word(words, correct + cells + m);
     }
     word(words, correct + 2 * cells + m)
 }

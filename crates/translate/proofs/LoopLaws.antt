@@ -1,4 +1,4 @@
--- What the loops over the records keep, into either form.
+-- What the loops over the records keep, into a coarser and into a finer form; and those over the forms.
 use mathlib.Core.Path.{_≡_, refl, sym, ap, _∙_, subst⁻¹}
 use mathlib.Core.List.{List, [], _∷_, map}
 use Prim.Native.Nat.{ℕ, zero, suc, _+_, _*_, _≤_, _<_}
@@ -24,101 +24,101 @@ map-at f [] i h = absurd (not-suc-le-zero h)
 map-at f (s ∷ ss) zero h = refl
 map-at f (s ∷ ss) (suc i) h = map-at f ss i (le-of-suc-le-suc h)
 
--- ---- into counting form
-abbrev pub Tags : ℕ → ℕ → List ℕ → ℕ → List ℕ → Type 0
-Tags c n steps₀ i steps = Partly n (stepsIn steps₀) (map (tagBy c) (stepsIn steps₀)) i steps
+-- ---- into a coarser form
+abbrev pub Tags : ℕ → ℕ → ℕ → List ℕ → ℕ → List ℕ → Type 0
+Tags j c n steps₀ i steps = Partly n (stepsIn steps₀) (map (tagBy j c) (stepsIn steps₀)) i steps
 
-module _ (c n : ℕ) (steps₀ : List ℕ) (l : length steps₀ ≡ n * 4) where
+module _ (j c n : ℕ) (steps₀ : List ℕ) (l : length steps₀ ≡ n * 4) where
   abbrev old : List Step
   old = stepsIn steps₀
 
   many : length old ≡ n
   many = length-steps n steps₀ l
 
-  new-many : length (map (tagBy c) old) ≡ n
-  new-many = length-map old (tagBy c) ∙ many
+  new-many : length (map (tagBy j c) old) ≡ n
+  new-many = length-map old (tagBy j c) ∙ many
 
-  pub tags-none : Tags c n steps₀ 0 steps₀
-  tags-none = partly-none n old (map (tagBy c) old) many new-many steps₀ l refl
+  pub tags-none : Tags j c n steps₀ 0 steps₀
+  tags-none = partly-none n old (map (tagBy j c) old) many new-many steps₀ l refl
 
-  module _ {i : ℕ} {steps : List ℕ} (T : Tags c n steps₀ i steps) where
-    pub tags-more : {u : List ℕ} → i < n → u ≡ set steps (i * 4 + 3) (tagBy c (recordAt steps i) .source) → Tags c n steps₀ (i + 1) u
+  module _ {i : ℕ} {steps : List ℕ} (T : Tags j c n steps₀ i steps) where
+    pub tags-more : {u : List ℕ} → i < n → u ≡ set steps (i * 4 + 3) (tagBy j c (recordAt steps i) .source) → Tags j c n steps₀ (i + 1) u
     tags-more h f =
-        let e = partly-at n old (map (tagBy c) old) many new-many T h in
-        subst⁻¹ (Tags c n steps₀ (i + 1)) f
-        (partly-more n old (map (tagBy c) old) many new-many T (tagBy c (recordAt steps i) .source) h
-        (ap (λ (s : Step). withSource (stepAt old i) (tagBy c s .source)) e ∙ tag-keeps c (stepAt old i) ∙ sym (map-at (tagBy c) old i (rw many h))))
+        let e = partly-at n old (map (tagBy j c) old) many new-many T h in
+        subst⁻¹ (Tags j c n steps₀ (i + 1)) f
+        (partly-more n old (map (tagBy j c) old) many new-many T (tagBy j c (recordAt steps i) .source) h
+        (ap (λ (s : Step). withSource (stepAt old i) (tagBy j c s .source)) e ∙ tag-keeps j c (stepAt old i) ∙ sym (map-at (tagBy j c) old i (rw many h))))
 
-    pub tags-all : i ≤ n → n ≤ i → steps ≡ bytesOf (map (tagBy c) old)
-    tags-all a b = partly-all n old (map (tagBy c) old) many new-many T a b
+    pub tags-all : i ≤ n → n ≤ i → steps ≡ bytesOf (map (tagBy j c) old)
+    tags-all a b = partly-all n old (map (tagBy j c) old) many new-many T a b
 
--- ---- into message form
-pub low-long : (d : Design) (w : List ℕ) (ss : List Step) → length (lowAll d w ss) ≡ length ss
+-- ---- into a finer form
+pub low-long : (j : ℕ) (d : Design) (w : List ℕ) (ss : List Step) → length (lowAll j d w ss) ≡ length ss
 unfolding lowAll
-low-long d w [] = refl
-low-long d w (s ∷ ss) = ap suc (low-long d (stepped 0 d w (lowest d w s)) ss)
+low-long j d w [] = refl
+low-long j d w (s ∷ ss) = ap suc (low-long j d (stepped j d w (lowest j d w s)) ss)
 
 -- the rest of a schedule, from the words after its first i steps
-module _ (d : Design) (w : List ℕ) (new ss : List Step) (i : ℕ) (h : i < length ss) (k : i < length new) (r : drop i new ≡ lowAll d w (drop i ss)) where
-  heads : stepAt new i ∷ drop (suc i) new ≡ lowest d w (stepAt ss i) ∷ lowAll d (stepped 0 d w (lowest d w (stepAt ss i))) (drop (suc i) ss)
+module _ (j : ℕ) (d : Design) (w : List ℕ) (new ss : List Step) (i : ℕ) (h : i < length ss) (k : i < length new) (r : drop i new ≡ lowAll j d w (drop i ss)) where
+  heads : stepAt new i ∷ drop (suc i) new ≡ lowest j d w (stepAt ss i) ∷ lowAll j d (stepped j d w (lowest j d w (stepAt ss i))) (drop (suc i) ss)
   unfolding lowAll
-  heads = sym (drop-cons new i noStep k) ∙ r ∙ ap (lowAll d w) (drop-cons ss i noStep h)
+  heads = sym (drop-cons new i noStep k) ∙ r ∙ ap (lowAll j d w) (drop-cons ss i noStep h)
 
-  rest-head : stepAt new i ≡ lowest d w (stepAt ss i)
+  rest-head : stepAt new i ≡ lowest j d w (stepAt ss i)
   rest-head = ap (λ (x : List Step). stepAt x 0) heads
 
-  rest-more : drop (i + 1) new ≡ lowAll d (stepped 0 d w (lowest d w (stepAt ss i))) (drop (i + 1) ss)
+  rest-more : drop (i + 1) new ≡ lowAll j d (stepped j d w (lowest j d w (stepAt ss i))) (drop (i + 1) ss)
   rest-more = rw add-one (ap (λ (x : List Step). drop 1 x) heads)
 
-pub record Along (d : Design) (w₀ : List ℕ) (n : ℕ) (steps₀ : List ℕ) (i : ℕ) (w steps : List ℕ) : Type 0 where
-  pub partly : Partly n (stepsIn steps₀) (lowAll d w₀ (stepsIn steps₀)) i steps
-  pub rest : drop i (lowAll d w₀ (stepsIn steps₀)) ≡ lowAll d w (drop i (stepsIn steps₀))
-  pub running : Running 0 d w₀ (lowAll d w₀ (stepsIn steps₀)) i w
+pub record Along (j : ℕ) (d : Design) (w₀ : List ℕ) (n : ℕ) (steps₀ : List ℕ) (i : ℕ) (w steps : List ℕ) : Type 0 where
+  pub partly : Partly n (stepsIn steps₀) (lowAll j d w₀ (stepsIn steps₀)) i steps
+  pub rest : drop i (lowAll j d w₀ (stepsIn steps₀)) ≡ lowAll j d w (drop i (stepsIn steps₀))
+  pub running : Running j d w₀ (lowAll j d w₀ (stepsIn steps₀)) i w
   pub long : length w ≡ length w₀
 
-module _ (d : Design) (w₀ : List ℕ) (n : ℕ) (steps₀ : List ℕ) (l : length steps₀ ≡ n * 4) where
+module _ (j : ℕ) (d : Design) (w₀ : List ℕ) (n : ℕ) (steps₀ : List ℕ) (l : length steps₀ ≡ n * 4) where
   abbrev was : List Step
   was = stepsIn steps₀
 
   abbrev low : List Step
-  low = lowAll d w₀ was
+  low = lowAll j d w₀ was
 
   was-many : length was ≡ n
   was-many = length-steps n steps₀ l
 
   low-many : length low ≡ n
-  low-many = low-long d w₀ was ∙ was-many
+  low-many = low-long j d w₀ was ∙ was-many
 
-  pub along-none : Along d w₀ n steps₀ 0 w₀ steps₀
-  along-none = record { partly = partly-none n was low was-many low-many steps₀ l refl; rest = refl; running = running-starts 0 d w₀ low; long = refl }
+  pub along-none : Along j d w₀ n steps₀ 0 w₀ steps₀
+  along-none = record { partly = partly-none n was low was-many low-many steps₀ l refl; rest = refl; running = running-starts j d w₀ low; long = refl }
 
-  module _ (runs : run 0 d w₀ low .refusal ≡ 0) {i : ℕ} {w steps : List ℕ} (A : Along d w₀ n steps₀ i w steps) (h : i < n) where
+  module _ (runs : run j d w₀ low .refusal ≡ 0) {i : ℕ} {w steps : List ℕ} (A : Along j d w₀ n steps₀ i w steps) (h : i < n) where
     at : recordAt steps i ≡ stepAt was i
     at = partly-at n was low was-many low-many (A .partly) h
 
-    head : stepAt low i ≡ lowest d w (recordAt steps i)
-    head = rest-head d w low was i (rw was-many h) (rw low-many h) (A .rest) ∙ ap (lowest d w) (sym at)
+    head : stepAt low i ≡ lowest j d w (recordAt steps i)
+    head = rest-head j d w low was i (rw was-many h) (rw low-many h) (A .rest) ∙ ap (lowest j d w) (sym at)
 
     -- since the whole runs, the step is accepted
-    pub along-accepts : stepFault 0 d w (lowest d w (recordAt steps i)) ≡ 0
-    along-accepts = ap (stepFault 0 d w) (sym head) ∙ go (ℕ-discrete (stepFault 0 d w (stepAt low i)) 0)
+    pub along-accepts : stepFault j d w (lowest j d w (recordAt steps i)) ≡ 0
+    along-accepts = ap (stepFault j d w) (sym head) ∙ go (ℕ-discrete (stepFault j d w (stepAt low i)) 0)
       where
-        go : Dec (stepFault 0 d w (stepAt low i) ≡ 0) → stepFault 0 d w (stepAt low i) ≡ 0
+        go : Dec (stepFault j d w (stepAt low i) ≡ 0) → stepFault j d w (stepAt low i) ≡ 0
         go (yes z) = z
-        go (no z) = absurd (z (sym (ap (λ (r : Ran). r .refusal) (running-stops 0 d w₀ low i w (A .running) (rw low-many h) z)) ∙ runs))
+        go (no z) = absurd (z (sym (ap (λ (r : Ran). r .refusal) (running-stops j d w₀ low i w (A .running) (rw low-many h) z)) ∙ runs))
 
-    on : Along d w₀ n steps₀ (i + 1) (stepped 0 d w (lowest d w (recordAt steps i))) (set steps (i * 4 + 3) (lowest d w (recordAt steps i) .source))
+    on : Along j d w₀ n steps₀ (i + 1) (stepped j d w (lowest j d w (recordAt steps i))) (set steps (i * 4 + 3) (lowest j d w (recordAt steps i) .source))
     on = record {
-      partly = partly-more n was low was-many low-many (A .partly) (lowest d w (recordAt steps i) .source) h
-          (ap (λ (s : Step). withSource s (lowest d w (recordAt steps i) .source)) (sym at) ∙ low-keeps d w (recordAt steps i) ∙ sym head);
-      rest = rest-more d w low was i (rw was-many h) (rw low-many h) (A .rest) ∙ ap (λ (s : Step). lowAll d (stepped 0 d w (lowest d w s)) (drop (i + 1) was)) (sym at);
-      running = subst⁻¹ (λ (s : Step). Running 0 d w₀ low (i + 1) (stepped 0 d w s)) (sym head) (running-goes 0 d w₀ low i w (A .running) (rw low-many h) (ap (stepFault 0 d w) head ∙ along-accepts));
-      long = length-stepped 0 d w (lowest d w (recordAt steps i)) ∙ A .long;
+      partly = partly-more n was low was-many low-many (A .partly) (lowest j d w (recordAt steps i) .source) h
+          (ap (λ (s : Step). withSource s (lowest j d w (recordAt steps i) .source)) (sym at) ∙ low-keeps j d w (recordAt steps i) ∙ sym head);
+      rest = rest-more j d w low was i (rw was-many h) (rw low-many h) (A .rest) ∙ ap (λ (s : Step). lowAll j d (stepped j d w (lowest j d w s)) (drop (i + 1) was)) (sym at);
+      running = subst⁻¹ (λ (s : Step). Running j d w₀ low (i + 1) (stepped j d w s)) (sym head) (running-goes j d w₀ low i w (A .running) (rw low-many h) (ap (stepFault j d w) head ∙ along-accepts));
+      long = length-stepped j d w (lowest j d w (recordAt steps i)) ∙ A .long;
     }
 
-    pub along-more : {v u : List ℕ} → v ≡ stepped 0 d w (lowest d w (recordAt steps i)) → u ≡ set steps (i * 4 + 3) (lowest d w (recordAt steps i) .source)
-        → Along d w₀ n steps₀ (i + 1) v u
+    pub along-more : {v u : List ℕ} → v ≡ stepped j d w (lowest j d w (recordAt steps i)) → u ≡ set steps (i * 4 + 3) (lowest j d w (recordAt steps i) .source)
+        → Along j d w₀ n steps₀ (i + 1) v u
     along-more e f = rw (e, f) on
 
-  pub along-all : {i : ℕ} {w steps : List ℕ} → Along d w₀ n steps₀ i w steps → i ≤ n → n ≤ i → steps ≡ bytesOf low
+  pub along-all : {i : ℕ} {w steps : List ℕ} → Along j d w₀ n steps₀ i w steps → i ≤ n → n ≤ i → steps ≡ bytesOf low
   along-all A a b = partly-all n was low was-many low-many (A .partly) a b

@@ -1,7 +1,7 @@
 -- A schedule's records, rewritten one after the other in place: the first i are the new ones.
 use mathlib.Core.Path.{_≡_, refl, sym, ap, ap₂, _∙_}
 use mathlib.Core.List.{List, [], _∷_, _++_, append-nil}
-use Prim.Native.Nat.{ℕ, zero, suc, _+_, _*_, _≤_, _<_}
+use Prim.Native.Nat.{ℕ, zero, suc, _+_, _*_, _/_, _≤_, _<_}
 use native.Mathlib.Nat.{not-suc-le-zero, le-of-suc-le-suc}
 use native.Mathlib.Numerals.{add-one}
 use native.Mathlib.Omega.{arith}
@@ -13,6 +13,7 @@ use Rattle.paper.proofs.RunLaws.{length-steps, step-at}
 use Rattle.agree.specs.Translation.{withSource}
 use Rattle.engine.specs.Design.{recordAt}
 use Rattle.translate.specs.Written.{bytesOf}
+use Rattle.translate.specs.Facts.{Records}
 
 -- ---- bytes and steps
 pub bytes-steps : (n : ℕ) (bs : List ℕ) → length bs ≡ n * 4 → bytesOf (stepsIn bs) ≡ bs
@@ -33,6 +34,17 @@ pub length-bytes : (ss : List Step) → length (bytesOf ss) ≡ length ss * 4
 unfolding bytesOf
 length-bytes [] = refl
 length-bytes (s ∷ ss) = omega (arith, length-bytes ss)
+
+-- ---- whole records
+pub bytes-again : (steps : List ℕ) → Records steps → bytesOf (stepsIn steps) ≡ steps
+bytes-again steps R = bytes-steps (length steps / 4) steps (R .whole)
+
+-- as many other steps have as many bytes
+pub bytes-many : (steps : List ℕ) (ss : List Step) → Records steps → length ss ≡ length (stepsIn steps) → length (bytesOf ss) ≡ length steps
+bytes-many steps ss R h = length-bytes ss ∙ ap (λ (n : ℕ). n * 4) (h ∙ length-steps (length steps / 4) steps (R .whole)) ∙ sym (R .whole)
+
+pub records-kept : {steps u : List ℕ} → Records steps → length u ≡ length steps → Records u
+records-kept R e = record { few = omega (arith, R .few); whole = e ∙ R .whole ∙ ap (λ (n : ℕ). n / 4 * 4) (sym e) }
 
 -- another source in record i
 pub steps-set : (n : ℕ) (bs : List ℕ) (i x : ℕ) → length bs ≡ n * 4 → i < n → stepsIn (set bs (i * 4 + 3) x) ≡ set (stepsIn bs) i (withSource (stepAt (stepsIn bs) i) x)

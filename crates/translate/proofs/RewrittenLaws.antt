@@ -139,10 +139,10 @@ module _ (t b : List ℕ) (R : Read t b) where
         ∙ steps-bytes ss
 
     -- ---- so it is read as the bundle was
-    pub same-reading : (st : List ℕ) → k ≤ 1 → t ≡ tableInUse b st → readFault x st ≡ readFault b st
+    pub same-reading : (st : List ℕ) → k ≤ 2 → t ≡ tableInUse b st → readFault x st ≡ readFault b st
     unfolding faultWith scheduleFault noTrailer outOfBundle notAdmitted stepsOff
     same-reading st l e =
-        let f : (formOf x over 1) ≡ (formOf b over 1) = le-ltb 1 (formOf x) (rw new-form l) ∙ sym (le-ltb 1 (formOf b) (R .admitted .form)) in
+        let f : (formOf x over 2) ≡ (formOf b over 2) = le-ltb 2 (formOf x) (rw new-form l) ∙ sym (le-ltb 2 (formOf b) (R .admitted .form)) in
         ap (λ (y : List ℕ). faultWith y x) (same-table st) ∙ rw (same-starts, same-steps, f, same-n, same-t, same-f, same-start-bytes, long)
 
     -- ---- written once more, the last time counts

@@ -1,13 +1,13 @@
--- A step in the other form, told by the numbers that the code has in hand.
+-- A step in the neighbouring form, told by the numbers that the code has in hand.
 use mathlib.Core.Path.{_≡_, refl, sym, ap, ap₂, _∙_}
 use mathlib.Core.Bool.{Bool, true, false, not, _&&_, and-false}
 use mathlib.Core.List.{List}
-use Prim.Native.Nat.{ℕ, _+_, _*_, _≤_, _<_}
+use Prim.Native.Nat.{ℕ, zero, suc, _+_, _*_, _≤_, _<_}
 use native.Mathlib.Omega.{arith}
 use native.Mathlib.Decide.{decLt}
 use lib.Dec.{eqb, ltb, leb}
 use lib.ListN.{getD, set}
-use borrow.Author.Tests.{lt-ltb, le-ltb, le-leb, lt-leb, ne-eqb, eqb-true}
+use borrow.Author.Tests.{lt-ltb, le-ltb, le-leb, lt-leb, eq-eqb, ne-eqb, eqb-true}
 use Rattle.senders.specs.Tally.{least}
 use Rattle.senders.specs.Set.{mem, missing}
 use Rattle.senders.proofs.TallyLaws.{and-both, least-same, least-le, least-found}
@@ -19,12 +19,13 @@ use Rattle.paper.specs.Form.{wide, coll, shown}
 use Rattle.paper.specs.Step.{columnOf, rcvdOf, sentOf, stepFault, stepped}
 use Rattle.paper.proofs.StepLaws.{Arrives, accepted}
 use Rattle.agree.specs.Translation.{tagOf, withSource, tagBy, lowSender, lowest}
-use Rattle.agree.proofs.Senders.{tag-correct, tag-faulty, tag-below, transit-correct, transit-faulty}
+use Rattle.agree.proofs.Columns.{tag-correct, tag-faulty, tag-only, transit-correct, transit-faulty, picture-laws}
 use Rattle.agree.proofs.Agree.{lowest-message}
 use Rattle.engine.specs.declared.Sizes.{Sizes}
 use Rattle.engine.specs.Design.{designOf, stepOf, recordAt}
-use Rattle.engine.specs.Words.{silentBytes}
+use Rattle.engine.specs.Words.{columnIn, transitIn, silentBytes}
 use Rattle.engine.specs.Facts.{Bounded, At}
+use Rattle.engine.proofs.FormCases.{counts}
 use Rattle.translate.specs.Facts.{lowestIn}
 
 -- ---- only the source changes
@@ -39,33 +40,37 @@ module _ (s : Step) (x : ℕ) where
   pick-keeps true = refl
   pick-keeps false = refl
 
-pub tag-source : (c : ℕ) (s : Step) → tagBy c s .source ≡ (s .source if silent s else tagOf c (s .source))
-unfolding tagBy
-tag-source c s = pick-source s (tagOf c (s .source)) (silent s)
+module _ (j : ℕ) where
+  pub tag-source : (c : ℕ) (s : Step) → tagBy j c s .source ≡ (s .source if silent s else tagOf j c (s .source))
+  unfolding tagBy
+  tag-source c s = pick-source s (tagOf j c (s .source)) (silent s)
 
-pub tag-keeps : (c : ℕ) (s : Step) → withSource s (tagBy c s .source) ≡ tagBy c s
-unfolding tagBy
-tag-keeps c s = ap (withSource s) (tag-source c s) ∙ pick-keeps s (tagOf c (s .source)) (silent s)
+  pub tag-keeps : (c : ℕ) (s : Step) → withSource s (tagBy j c s .source) ≡ tagBy j c s
+  unfolding tagBy
+  tag-keeps c s = ap (withSource s) (tag-source c s) ∙ pick-keeps s (tagOf j c (s .source)) (silent s)
 
-pub low-source : (d : Design) (w : List ℕ) (s : Step) → lowest d w s .source ≡ (s .source if silent s else lowSender d w s)
-unfolding lowest
-low-source d w s = pick-source s (lowSender d w s) (silent s)
+  pub low-source : (d : Design) (w : List ℕ) (s : Step) → lowest j d w s .source ≡ (s .source if silent s else lowSender j d w s)
+  unfolding lowest
+  low-source d w s = pick-source s (lowSender j d w s) (silent s)
 
-pub low-keeps : (d : Design) (w : List ℕ) (s : Step) → withSource s (lowest d w s .source) ≡ lowest d w s
-unfolding lowest
-low-keeps d w s = ap (withSource s) (low-source d w s) ∙ pick-keeps s (lowSender d w s) (silent s)
+  pub low-keeps : (d : Design) (w : List ℕ) (s : Step) → withSource s (lowest j d w s .source) ≡ lowest j d w s
+  unfolding lowest
+  low-keeps d w s = ap (withSource s) (low-source d w s) ∙ pick-keeps s (lowSender j d w s) (silent s)
 
 -- ---- `tag`
-pub tag-zero : (c q : ℕ) → q < c → 0 ≡ tagOf c q
-tag-zero c q h = sym (tag-correct c q h)
+pub tag-none : (j c q : ℕ) → (j ≡ 0 → ⊥) → 0 ≡ tagOf j c q
+tag-none j c q n = counts (λ (k : ℕ). 0 ≡ tagOf k c q) (λ i. sym (tag-only i c q)) j n
 
-pub tag-one : (c q : ℕ) → c ≤ q → 1 ≡ tagOf c q
-tag-one c q h = sym (tag-faulty c q h)
+pub tag-zero : (j c q : ℕ) → j ≡ 0 → q < c → 0 ≡ tagOf j c q
+tag-zero j c q e h = sym (ap (λ (k : ℕ). tagOf k c q) e ∙ tag-correct c q h)
+
+pub tag-one : (j c q : ℕ) → j ≡ 0 → c ≤ q → 1 ≡ tagOf j c q
+tag-one j c q e h = sym (ap (λ (k : ℕ). tagOf k c q) e ∙ tag-faulty c q h)
 
 -- `tag_at`
-pub tag-set : {m q x : ℕ} (c : ℕ) (steps : List ℕ) (i : ℕ) → m ≡ byteAt steps (i * 4 + 2) → q ≡ byteAt steps (i * 4 + 3) → x ≡ (q if silentBytes m q else tagOf c q)
-    → set steps (i * 4 + 3) x ≡ set steps (i * 4 + 3) (tagBy c (recordAt steps i) .source)
-tag-set c steps i e f h = ap (set steps (i * 4 + 3)) (rw (e, f) at h ∙ sym (tag-source c (recordAt steps i)))
+pub tag-set : {m q x : ℕ} (j c : ℕ) (steps : List ℕ) (i : ℕ) → m ≡ byteAt steps (i * 4 + 2) → q ≡ byteAt steps (i * 4 + 3) → x ≡ (q if silentBytes m q else tagOf j c q)
+    → set steps (i * 4 + 3) x ≡ set steps (i * 4 + 3) (tagBy j c (recordAt steps i) .source)
+tag-set j c steps i e f h = ap (set steps (i * 4 + 3)) (rw (e, f) at h ∙ sym (tag-source j c (recordAt steps i)))
 
 -- in transit, in words of the form k
 abbrev transitAs : ℕ → Sizes → List ℕ → ℕ → ℕ → ℕ → Bool
@@ -75,7 +80,7 @@ transitAs k s w p m q =
 -- ---- `lowest_of`
 module _ (c f got out : ℕ) where
   abbrev test : ℕ → ℕ → Bool
-  test tag q = eqb (tagOf c q) tag && passing c f .inTransit q got out
+  test tag q = eqb (tagOf 0 c q) tag && passing c f .inTransit q got out
 
   correct-is : (q : ℕ) → (ltb q c && missing out got q) ≡ test 0 q
   correct-is q = go (decLt q c)
@@ -100,10 +105,24 @@ module _ (c f got out : ℕ) where
 
 -- the form's number is 0
 low-zero : (s : Sizes) (w : List ℕ) (p m tag : ℕ) → s .form ≡ 0
-    → lowestIn s w p m tag ≡ least (s .correct + s .faulty) (λ q. eqb (tagOf (s .correct) q) tag && transitAs 0 s w p m q)
-low-zero s w p m tag e = ap (λ (k : ℕ). least (s .correct + s .faulty) (λ q. eqb (tagOf (s .correct) q) tag && transitAs k s w p m q)) e
+    → lowestIn s w p m tag ≡ least (s .correct + s .faulty) (λ q. eqb (tagOf 0 (s .correct) q) tag && transitAs 0 s w p m q)
+low-zero s w p m tag e = ap (λ (k : ℕ). least (column k (s .correct) (s .faulty) .sources) (λ q. eqb (tagOf k (s .correct) q) tag && transitAs k s w p m q)) e
 
--- ---- `sender`: the two sets that it reads, in words of message form
+-- or another: there is one tag only
+pub source-low : {r : ℕ} (s : Sizes) (w : List ℕ) (p m tag : ℕ) → (s .form ≡ 0 → ⊥) → tag < column (suc (s .form)) (s .correct) (s .faulty) .sources
+    → r ≡ least (columnIn s .sources) (transitIn s w p m) → r ≡ lowestIn s w p m tag
+source-low {r} s w p m tag n l h = h ∙ least-same (columnIn s .sources) _ _ (λ q b. sym (ap (λ (x : Bool). x && transitIn s w p m q) (only q)))
+  where
+    none : tag ≡ 0
+    none = counts (λ (k : ℕ). tag < column (suc k) (s .correct) (s .faulty) .sources → tag ≡ 0) (λ j h. omega arith) (s .form) n l
+
+    only : (q : ℕ) → eqb (tagOf (s .form) (s .correct) q) tag ≡ true
+    only q = eq-eqb _ _ (sym (tag-none (s .form) (s .correct) q n) ∙ sym none)
+
+pub two-tags : (s : Sizes) (tag : ℕ) → s .form ≡ 0 → tag < column (suc (s .form)) (s .correct) (s .faulty) .sources → tag < 2
+two-tags s tag e l = rw e at l
+
+-- ---- `source`: the two sets that it reads, in words of message form
 pub sender-low : {i j r : ℕ} (s : Sizes) (w : List ℕ) (p m tag : ℕ) → s .form ≡ 0 → i ≡ cellAt (s .correct) (s .types) (wide (s .form)) p m 0 → j ≡ sentAt (s .correct) (s .types) (wide (s .form)) m
     → r ≡ least (s .correct + s .faulty) (test (s .correct) (s .faulty) (getD w i 0) (getD w j 0) tag) → r ≡ lowestIn s w p m tag
 unfolding coll shown cell sent
@@ -113,49 +132,53 @@ sender-low {i} {j} {r} s w p m tag e f g h =
     (h ∙ ap₂ (λ (x y : ℕ). least (C + s .faulty) (test C (s .faulty) (getD w x 0) (getD w y 0) tag)) (f ∙ ap (λ (k : ℕ). cellAt C T (wide k) p m 0) e) (g ∙ ap (λ (k : ℕ). sentAt C T (wide k) m) e))
     ∙ sym (low-zero s w p m tag e)
 
--- ---- what the accepted step tells of the tag: a type of the table, and one of the two tags
-pub record Tagged (d : Design) (s : Step) : Type 0 where
+-- ---- what the accepted step tells of the tag: a type of the table, and a source of the next form
+pub sources-few : (k C f : ℕ) → C + f ≤ 64 → column k C f .sources ≤ 64
+sources-few zero C f h = h
+sources-few (suc zero) C f h = omega arith
+sources-few (suc (suc k)) C f h = omega arith
+
+pub record Tagged (j : ℕ) (d : Design) (s : Step) : Type 0 where
   pub board : s .board < d .boards
   pub type : s .type < d .types
-  pub tag : s .source < 2
+  pub tag : s .source < columnOf (suc j) d .sources
 
-pub tagged-by : (d : Design) (w : List ℕ) (s : Step) → d .boards + d .faulty ≤ 64 → stepFault 0 d w (lowest d w s) ≡ 0 → silent s ≡ false → Tagged d s
+pub tagged-by : (j : ℕ) (d : Design) (w : List ℕ) (s : Step) → d .boards + d .faulty ≤ 64 → stepFault j d w (lowest j d w s) ≡ 0 → silent s ≡ false → Tagged j d s
 unfolding lowSender
-tagged-by d w s k h e =
-    let n = d .boards + d .faulty in
-    let P : ℕ → Bool = λ q. eqb (tagOf (d .boards) q) (s .source) && columnOf 0 d .inTransit q (rcvdOf 0 d w (s .board) (s .type)) (sentOf 0 d w (s .type)) in
-    let z : eqb (least n P) 255 ≡ false = ne-eqb (least n P) 255 (omega (arith, least-le n P)) in
-    let A = accepted 0 d w (withSource s (lowSender d w s)) (ap (stepFault 0 d w) (sym (lowest-message d w s e)) ∙ h) .arrives in
+tagged-by j d w s k h e =
+    let n = columnOf j d .sources in
+    let P : ℕ → Bool = λ q. eqb (tagOf j (d .boards) q) (s .source) && columnOf j d .inTransit q (rcvdOf j d w (s .board) (s .type)) (sentOf j d w (s .type)) in
+    let z : eqb (least n P) 255 ≡ false = ne-eqb (least n P) 255 (omega (arith, least-le n P, sources-few j (d .boards) (d .faulty) k)) in
+    let A = accepted j d w (withSource s (lowSender j d w s)) (ap (stepFault j d w) (sym (lowest-message j d s w e)) ∙ h) .arrives in
     let N = A .named (ap (λ (b : Bool). eqb (s .type) 255 && b) z ∙ and-false (eqb (s .type) 255)) in
-    let t : tagOf (d .boards) (least n P) ≡ s .source = eqb-true _ _ (and-both _ _ (least-found n P (N .source)) .0) in
-    record { board = A .board; type = N .type; tag = omega (arith, t, tag-below (d .boards) (least n P)) }
+    let t : tagOf j (d .boards) (least n P) ≡ s .source = eqb-true _ _ (and-both _ _ (least-found n P (N .source)) .0) in
+    record { board = A .board; type = N .type; tag = omega (arith, t, picture-laws (d .boards) (d .faulty) j .below (least n P)) }
 
--- ---- `sender_at`, for the step x whose bytes it has in hand
-module _ {p r m tag : ℕ} (s : Sizes) (tab w : List ℕ) (x : Step) (e : s .form ≡ 0) (ep : p ≡ x .board) (er : r ≡ x .rule) (em : m ≡ x .type) (et : tag ≡ x .source) where
+-- ---- `source_at`, for the step x whose bytes it has in hand
+module _ {p r m tag : ℕ} (s : Sizes) (tab w : List ℕ) (x : Step) (ep : p ≡ x .board) (er : r ≡ x .rule) (em : m ≡ x .type) (et : tag ≡ x .source) where
   abbrev d : Design
   d = designOf s tab
 
-  pub sender-what : Bounded s → stepFault 0 d w (lowest d w x) ≡ 0 → silentBytes m tag ≡ false → (At s p m) × (tag < 2)
-  sender-what B h z =
-      let T = tagged-by d w x (B .boards) h (ap₂ silentBytes (sym em) (sym et) ∙ z) in
+  abbrev k : ℕ
+  k = s .form
+
+  pub source-what : Bounded s → stepFault k d w (lowest k d w x) ≡ 0 → silentBytes m tag ≡ false → (At s p m) × (tag < column (suc k) (s .correct) (s .faulty) .sources)
+  source-what B h z =
+      let T = tagged-by k d w x (B .boards) h (ap₂ silentBytes (sym em) (sym et) ∙ z) in
       (record { board = rw ep (T .board); type = rw em (T .type) }, rw et (T .tag))
 
-  low-in : lowSender d w (stepOf p r m tag) ≡ lowestIn s w p m tag
-  unfolding lowSender
-  low-in = sym (low-zero s w p m tag e)
-
   module _ {q : ℕ} (h : q ≡ (tag if silentBytes m tag else lowestIn s w p m tag)) where
-    sender-step : stepOf p r m q ≡ lowest d w x
-    sender-step =
+    source-step : stepOf p r m q ≡ lowest k d w x
+    unfolding lowSender
+    source-step =
         let a : stepOf p r m tag ≡ x = λ i. record { board = ep i; rule = er i; type = em i; source = et i } in
-        ap (withSource (stepOf p r m tag)) (h ∙ ap (λ (y : ℕ). tag if silentBytes m tag else y) (sym low-in) ∙ sym (low-source d w (stepOf p r m tag)))
-        ∙ low-keeps d w (stepOf p r m tag) ∙ ap (lowest d w) a
+        ap (withSource (stepOf p r m tag)) (h ∙ sym (low-source k d w (stepOf p r m tag))) ∙ low-keeps k d w (stepOf p r m tag) ∙ ap (lowest k d w) a
 
-    pub sender-accepted : stepFault 0 d w (lowest d w x) ≡ 0 → stepFault (s .form) d w (stepOf p r m q) ≡ 0
-    sender-accepted z = ap₂ (λ (k : ℕ) (y : Step). stepFault k d w y) e sender-step ∙ z
+    pub source-accepted : stepFault k d w (lowest k d w x) ≡ 0 → stepFault k d w (stepOf p r m q) ≡ 0
+    source-accepted z = ap (stepFault k d w) source-step ∙ z
 
-    pub sender-stepped : {v : List ℕ} → v ≡ stepped (s .form) d w (stepOf p r m q) → v ≡ stepped 0 d w (lowest d w x)
-    sender-stepped f = f ∙ ap₂ (λ (k : ℕ) (y : Step). stepped k d w y) e sender-step
+    pub source-stepped : {v : List ℕ} → v ≡ stepped k d w (stepOf p r m q) → v ≡ stepped k d w (lowest k d w x)
+    source-stepped f = f ∙ ap (stepped k d w) source-step
 
-    pub sender-source : q ≡ lowest d w x .source
-    sender-source = ap (λ (y : Step). y .source) sender-step
+    pub source-is : q ≡ lowest k d w x .source
+    source-is = ap (λ (y : Step). y .source) source-step

@@ -7,40 +7,59 @@ use lib.ListN.{length, set, take, drop, length-append, length-drop, length-set, 
 use lib.Seq.{length-take-le}
 use borrow.Rule.Slice.PartMut.{putMid, post-is}
 use Rattle.fault.specs.Bytes.{trailerOf}
-use Rattle.bundle.specs.Bundle.{stepDistance, formOf, stepsAt, startsOf, stepsOf}
+use Rattle.bundle.specs.Bundle.{stepDistance, formOf, stepsAt, stepsOf}
 use Rattle.bundle.specs.Facts.{Read}
 use Rattle.paper.specs.Paper.{Design, Step}
-use Rattle.paper.specs.Words.{start}
-use Rattle.paper.specs.Form.{wide}
 use Rattle.paper.specs.Run.{stepsIn}
 use Rattle.paper.proofs.RunLaws.{length-steps}
-use Rattle.agree.specs.Translation.{tagBy, tagged, lowAll}
+use Rattle.agree.specs.Translation.{tagBy, coarser, finer, moved}
 use Rattle.engine.specs.declared.Sizes.{Sizes}
 use Rattle.engine.specs.Design.{sizesOf, designOf}
 use Rattle.engine.specs.Entry.{scheduleOf}
-use Rattle.engine.proofs.FormCases.{sets, counts}
-use Rattle.translate.specs.Written.{bytesOf, rewritten, moved, translationWith}
-use Rattle.translate.specs.Facts.{inMessageForm}
-use Rattle.translate.proofs.RecordLaws.{length-bytes}
+use Rattle.translate.specs.Written.{bytesOf, rewritten, beginOf, translationWith}
+use Rattle.translate.specs.Facts.{Records}
+use Rattle.translate.proofs.RecordLaws.{steps-bytes, length-bytes, bytes-again, bytes-many, records-kept}
 use Rattle.translate.proofs.LoopLaws.{low-long}
 
--- ---- the schedule in the other form
-pub moved-long : (k : ℕ) (d : Design) (w : List ℕ) (ss : List Step) → length (moved k d w ss) ≡ length ss
-unfolding moved
-moved-long zero d w ss = length-map ss (tagged d)
-moved-long (suc k) d w ss = low-long d w ss
+-- ---- the schedule in another form: as many steps
+coarser-long : (n k c : ℕ) (ss : List Step) → length (coarser n k c ss) ≡ length ss
+unfolding coarser
+coarser-long zero k c ss = refl
+coarser-long (suc n) k c ss = length-map (coarser n k c ss) (tagBy (n + k) c) ∙ coarser-long n k c ss
 
-pub moved-tags : {u : List ℕ} (k : ℕ) (d : Design) (w : List ℕ) (ss : List Step) → k ≡ 0 → u ≡ bytesOf (map (tagBy (d .boards)) ss) → u ≡ bytesOf (moved k d w ss)
-unfolding moved
-moved-tags {u} k d w ss e h = sets (λ (j : ℕ). u ≡ bytesOf (moved j d w ss)) h k e
+finer-long : (n i : ℕ) (d : Design) (begin : ℕ → List ℕ) (ss : List Step) → length (finer n i d begin ss) ≡ length ss
+unfolding finer
+finer-long zero i d begin ss = refl
+finer-long (suc n) i d begin ss = low-long i d (begin i) (finer n (suc i) d begin ss) ∙ finer-long n (suc i) d begin ss
 
-pub moved-senders : {u : List ℕ} {r : Sizes} (s : Sizes) (t starts : List ℕ) (ss : List Step) → r ≡ inMessageForm s → (s .form ≡ 0 → ⊥)
-    → u ≡ bytesOf (lowAll (designOf r t) (start (r .types) (wide 0) starts) ss)
-    → u ≡ bytesOf (moved (s .form) (designOf s t) (start (s .types) (wide 0) starts) ss)
+pub moved-long : (k i : ℕ) (d : Design) (begin : ℕ → List ℕ) (ss : List Step) → length (moved k i d begin ss) ≡ length ss
 unfolding moved
-moved-senders {u} {r} s t starts ss e n h =
-    h ∙ ap (λ (x : Sizes). bytesOf (lowAll (designOf x t) (start (x .types) (wide 0) starts) ss)) e
-    ∙ counts (λ (j : ℕ). bytesOf (lowAll (designOf s t) (start (s .types) (wide 0) starts) ss) ≡ bytesOf (moved j (designOf s t) (start (s .types) (wide 0) starts) ss)) (λ j. refl) (s .form) n
+moved-long k i d begin ss = coarser-long (i - k) k (d .boards) (finer (k - i) i d begin ss) ∙ finer-long (k - i) i d begin ss
+
+-- ---- the loop over the forms, up from form k: the steps in form j
+pub record Coarsened (k c : ℕ) (steps₀ : List ℕ) (j : ℕ) (steps : List ℕ) : Type 0 where
+  pub holds : steps ≡ bytesOf (coarser (j - k) k c (stepsIn steps₀))
+  pub long : length steps ≡ length steps₀
+
+module _ (k c : ℕ) (steps₀ : List ℕ) (Q : Records steps₀) where
+  pub coarsened-none : Coarsened k c steps₀ k steps₀
+  unfolding coarser
+  coarsened-none = let o : k - k ≡ 0 = omega arith in record { holds = rw o (sym (bytes-again steps₀ Q)); long = refl }
+
+  pub coarsened-more : {j : ℕ} {steps u : List ℕ} → k ≤ j → Coarsened k c steps₀ j steps → u ≡ bytesOf (map (tagBy j c) (stepsIn steps)) → Coarsened k c steps₀ (j + 1) u
+  unfolding coarser
+  coarsened-more {j} {steps} {u} l F h =
+      let n : j + 1 - k ≡ suc (j - k) = omega arith in
+      let e : j ≡ j - k + k = omega arith in
+      let q : stepsIn steps ≡ coarser (j - k) k c (stepsIn steps₀) = ap stepsIn (F .holds) ∙ steps-bytes _ in
+      let g : u ≡ bytesOf (map (tagBy (j - k + k) c) (coarser (j - k) k c (stepsIn steps₀))) = h ∙ ap₂ (λ (i : ℕ) (x : List Step). bytesOf (map (tagBy i c) x)) e q in
+      record {
+        holds = g ∙ sym (ap (λ (i : ℕ). bytesOf (coarser i k c (stepsIn steps₀))) n);
+        long = ap length h ∙ bytes-many steps (map (tagBy j c) (stepsIn steps)) (records-kept Q (F .long)) (length-map (stepsIn steps) (tagBy j c)) ∙ F .long;
+      }
+
+pub coarsened-all : {k c j form : ℕ} {steps₀ steps : List ℕ} → Coarsened k c steps₀ j steps → j ≤ form → form ≤ j → steps ≡ bytesOf (coarser (form - k) k c (stepsIn steps₀))
+coarsened-all {k} {c} {j} {form} {steps₀} F l m = let z : j ≡ form = omega arith in F .holds ∙ ap (λ (i : ℕ). bytesOf (coarser (i - k) k c (stepsIn steps₀))) z
 
 -- ---- a bundle with other steps, as many as its own
 module _ (t b : List ℕ) (R : Read t b) where
@@ -62,12 +81,11 @@ module _ (t b : List ℕ) (R : Read t b) where
       length-set (take (stepsAt b) b ++ (bytesOf ss ++ drop (trailerOf b) b)) (length b - 1) k ∙ length-append (take (stepsAt b) b) (bytesOf ss ++ drop (trailerOf b) b)
       ∙ ap₂ (λ (x y : ℕ). x + y) a (length-append (bytesOf ss) (drop (trailerOf b) b) ∙ ap₂ (λ (x y : ℕ). x + y) e q) ∙ omega (arith, at-inside)
 
-  pub translation-long : length (translationWith t b) ≡ length b
+  pub translation-long : (i : ℕ) → length (translationWith t b i) ≡ length b
   unfolding translationWith
-  translation-long =
+  translation-long i =
       let d = designOf (sizesOf t b) t in
-      let w = start (d .types) (wide 0) (startsOf b) in
-      rewritten-long (moved (formOf b) d w (scheduleOf b)) (1 - formOf b) (moved-long (formOf b) d w (scheduleOf b))
+      rewritten-long (moved (formOf b) i d (beginOf t b) (scheduleOf b)) i (moved-long (formOf b) i d (beginOf t b) (scheduleOf b))
 
   -- ---- `write`, from what it has in hand: the copy o, and where the first step stands
   module _ {at : ℕ} {o : List ℕ} (e : at ≡ stepsAt b) (g : o ≡ b) where
@@ -75,12 +93,12 @@ module _ (t b : List ℕ) (R : Read t b) where
     unfolding stepsOf
     steps-part n h = rw (h, e, g)
 
-    pub all-written : {s : Sizes} {u : List ℕ} {k : ℕ} → s ≡ sizesOf t b
-        → u ≡ bytesOf (moved (s .form) (designOf s t) (start (s .types) (wide 0) (startsOf b)) (stepsIn (take (length b - 8 - at) (drop at o)))) → k ≡ 1 - s .form
-        → set (putMid at (length b - 8 - at) o u) (length b - 1) k ≡ translationWith t b
+    pub all-written : {s : Sizes} {u : List ℕ} (k : ℕ) → s ≡ sizesOf t b
+        → u ≡ bytesOf (moved (s .form) k (designOf s t) (beginOf t b) (stepsIn (take (length b - 8 - at) (drop at o))))
+        → set (putMid at (length b - 8 - at) o u) (length b - 1) k ≡ translationWith t b k
     unfolding rewritten translationWith
-    all-written {s} {u} {k} f h q =
+    all-written {s} {u} k f h =
         let z : at ≤ length b - 8 = omega (arith, at-inside) in
         let n : length b - 8 - at ≡ stepDistance b = omega (arith, at-inside) in
         let p : putMid at (length b - 8 - at) o u ≡ take at o ++ (u ++ drop (length b - 8) o) = ap (λ (x : List ℕ). take at o ++ (u ++ x)) (post-is at (length b - 8) o z) in
-        rw p (rw (h, steps-part (length b - 8 - at) n, q, f, g, e))
+        rw p (rw (h, steps-part (length b - 8 - at) n, f, g, e))

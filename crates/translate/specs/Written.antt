@@ -1,13 +1,14 @@
--- A bundle with its schedule in the other form (outline, "Translation"): same length, same table, starts and n, t, f.
-use mathlib.Core.List.{List, [], _∷_, _++_, map}
-use Prim.Native.Nat.{ℕ, zero, suc, _-_}
+-- A bundle with its schedule in another form (outline, "Translation"; Q-4): same length, same table, starts and n, t, f.
+use mathlib.Core.List.{List, [], _∷_, _++_}
+use Prim.Native.Nat.{ℕ, _-_}
 use lib.ListN.{length, set, take, drop}
 use Rattle.fault.specs.Bytes.{trailerOf}
+use Rattle.table.specs.Table.{typesOf}
 use Rattle.bundle.specs.Bundle.{formOf, stepsAt, startsOf}
-use Rattle.paper.specs.Paper.{Design, Step}
+use Rattle.paper.specs.Paper.{Step}
 use Rattle.paper.specs.Words.{start}
 use Rattle.paper.specs.Form.{wide}
-use Rattle.agree.specs.Translation.{tagged, lowAll}
+use Rattle.agree.specs.Translation.{moved}
 use Rattle.engine.specs.Design.{sizesOf, designOf}
 use Rattle.engine.specs.Entry.{scheduleOf}
 
@@ -20,13 +21,10 @@ bytesOf (s ∷ ss) = s .board ∷ s .rule ∷ s .type ∷ s .source ∷ bytesOf 
 unfoldable pub rewritten : List ℕ → List Step → ℕ → List ℕ
 rewritten b ss k = set (take (stepsAt b) b ++ (bytesOf ss ++ drop (trailerOf b) b)) (length b - 1) k
 
--- a schedule of form k in the other form: each sender becomes its tag; or each tag the lowest sender in transit, in the words
--- that the steps before it have made of w, the first configuration in message form
-unfoldable pub moved : ℕ → Design → List ℕ → List Step → List Step
-moved zero d w ss = map (tagged d) ss
-moved (suc k) d w ss = lowAll d w ss
+-- its first words in form i, whatever form it is in itself
+abbrev pub beginOf : List ℕ → List ℕ → ℕ → List ℕ
+beginOf table b i = start (typesOf table) (wide i) (startsOf b)
 
-unfoldable pub translationWith : List ℕ → List ℕ → List ℕ
-translationWith table b =
-    let d = designOf (sizesOf table b) table in
-    rewritten b (moved (formOf b) d (start (d .types) (wide 0) (startsOf b)) (scheduleOf b)) (1 - formOf b)
+-- the bundle in form i
+unfoldable pub translationWith : List ℕ → List ℕ → ℕ → List ℕ
+translationWith table b i = rewritten b (moved (formOf b) i (designOf (sizesOf table b) table) (beginOf table b) (scheduleOf b)) i

@@ -1,38 +1,57 @@
-// Translation: a bundle with its schedule in the other form, for every bundle, standing table and lent slice.
+// Translation: a bundle with its schedule in another form, for every bundle, standing table, form and lent slice.
 ghost use mathlib.Core.Path.{_≡_};
 ghost use mathlib.Core.Bool.{false, _&&_};
 ghost use mathlib.Core.List.{map};
-ghost use Prim.Native.Nat.{_+_, _-_, _*_, _/_, _≤_, _<_};
+ghost use Prim.Native.Nat.{suc, _+_, _-_, _*_, _/_, _≤_, _<_};
 ghost use lib.Dec.{eqb};
 ghost use lib.ListN.{length, set};
 ghost use Rattle.senders.specs.Tally.{least};
 ghost use Rattle.fault.specs.Fault.{_if_else_};
-ghost use Rattle.bundle.specs.Bundle.{startsOf, stepsOf};
+ghost use Rattle.bundle.specs.Bundle.{stepsOf};
 ghost use Rattle.bundle.specs.Facts.{Read};
-ghost use Rattle.paper.specs.Paper.{passing};
-ghost use Rattle.paper.specs.Words.{start};
-ghost use Rattle.paper.specs.Form as forms;
+ghost use Rattle.paper.specs.Paper.{passing, column};
 ghost use Rattle.paper.specs.Step.{stepFault, stepped};
 ghost use Rattle.paper.specs.Run.{stepsIn};
-ghost use Rattle.agree.specs.Translation.{tagOf, tagBy, lowest, lowAll};
+ghost use Rattle.agree.specs.Translation.{tagOf, tagBy, lowest, lowAll, coarser, finer, moved};
 ghost use Rattle.engine.specs.Design.{sizesOf, designOf, recordAt, roomOf};
 ghost use Rattle.engine.specs.Entry.{ranAnswer, ranWith};
 ghost use Rattle.engine.specs.Words.{silentBytes};
 ghost use Rattle.engine.specs.Facts.{Bounded, Suits, EndsTo, Kept, Holds, At};
-ghost use Rattle.translate.specs.Written.{bytesOf, moved, translationWith};
-ghost use Rattle.translate.specs.Facts.{inMessageForm, lowestIn, RunsLow};
-ghost use Rattle.translate.specs.Entry.{wrote, translateAnswer, translateBytes};
+ghost use Rattle.translate.specs.Written.{bytesOf, beginOf, translationWith};
+ghost use Rattle.translate.specs.Facts.{inForm, Records, lowestIn, RunsLow};
+ghost use Rattle.translate.specs.Entry.{wrote, translateToAnswer, translateToBytes, usual, translateAnswer, translateBytes};
 use engine::Sizes;
 use fault::Answer;
 
-// Writes the bundle in the other form, or refuses as running does; 30 measures bytes.
+// Writes the bundle in the form that its own usually goes to: 0 to 1, 1 to 0, 2 to 1.
 pub fn translate<'a>(bundle: &'a [u8], standing: &'a [u8], out: &mut [u8]) -> Answer
     ensures { λ r. ⌜ r ≡ translateAnswer (now (bundle .entry)) (now (standing .entry)) (length (now (out .entry))) ⌝ }
     ensures { λ r. ⌜ now (out .exit) ≡ translateBytes (now (bundle .entry)) (now (standing .entry)) (now (out .entry)) ⌝ }
 {
+    translate_to(bundle, standing, usual_form(bundle), out)
+}
+
+// The form that the bundle's own usually goes to, also of bytes that are no bundle.
+fn usual_form(bundle: &[u8]) -> u64
+    ensures { λ r. ⌜ r ≡ usual (now (bundle .entry)) ⌝ }
+{
+    if bundle.len() < 8 {
+        return 1;
+    }
+    if bundle::form(bundle) == 1 { 0 } else { 1 }
+}
+
+// Writes the bundle in the form that is asked for, or refuses as running does; 30 measures bytes.
+pub fn translate_to<'a>(bundle: &'a [u8], standing: &'a [u8], form: u64, out: &mut [u8]) -> Answer
+    ensures { λ r. ⌜ r ≡ translateToAnswer (now (bundle .entry)) (now (standing .entry)) form (length (now (out .entry))) ⌝ }
+    ensures { λ r. ⌜ now (out .exit) ≡ translateToBytes (now (bundle .entry)) (now (standing .entry)) form (now (out .entry)) ⌝ }
+{
     let v = bundle::read_fault(bundle, standing);
     if v.number != 0 {
         return fault::answered(v.number, v.place, 0);
+    }
+    if (form == bundle::form(bundle) as u64) | (2 < form) {
+        return fault::answered(31, 0, 0);
     }
     let need = bundle.len();
     if out.len() < need {
@@ -47,6 +66,7 @@ pub fn translate<'a>(bundle: &'a [u8], standing: &'a [u8], out: &mut [u8]) -> An
     translate_in(
         table,
         bundle,
+        form as usize,
         &mut ends,
         &mut leasts,
         &mut words,
@@ -58,14 +78,15 @@ pub fn translate<'a>(bundle: &'a [u8], standing: &'a [u8], out: &mut [u8]) -> An
 fn translate_in(
     table: &[u8],
     bundle: &[u8],
+    form: usize,
     ends: &mut [u8],
     leasts: &mut [u16],
     words: &mut [u64],
     out: &mut [u8],
 ) -> Answer
-    requires { ⌜ (Read (now table) (now bundle)) × (length (now ends) ≡ 256) × (length (now leasts) ≡ 256) × (length (now words) ≡ 580) × (length (now out) ≡ length (now bundle)) ⌝ }
+    requires { ⌜ (Read (now table) (now bundle)) × (form ≤ 2) × (length (now ends) ≡ 256) × (length (now leasts) ≡ 256) × (length (now words) ≡ 580) × (length (now out) ≡ length (now bundle)) ⌝ }
     ensures { λ r. ⌜ r ≡ wrote (length (now (bundle .entry))) (ranWith (now (table .entry)) (now (bundle .entry))) ⌝ }
-    ensures { λ r. ⌜ now (out .exit) ≡ (translationWith (now (table .entry)) (now (bundle .entry)) if eqb (ranWith (now (table .entry)) (now (bundle .entry)) .refusal) 0 else now (out .entry)) ⌝ }
+    ensures { λ r. ⌜ now (out .exit) ≡ (translationWith (now (table .entry)) (now (bundle .entry)) form if eqb (ranWith (now (table .entry)) (now (bundle .entry)) .refusal) 0 else now (out .entry)) ⌝ }
 {
     let s = engine::sizes_of(table, bundle);
     engine::rules::keep(table, s, ends, leasts);
@@ -77,7 +98,7 @@ fn translate_in(
             count: 0,
         };
     }
-    write(table, bundle, s, ends, words, out);
+    write(table, bundle, s, form, ends, words, out);
     fault::answered(0, 0, bundle.len())
 }
 
@@ -98,17 +119,25 @@ fn run_own(
     engine::run_in(table, bundle, s, ends, leasts, &mut words[..need])
 }
 
-// The bundle that runs, with its steps in the other form, and the other form's number as its last byte.
-fn write(table: &[u8], bundle: &[u8], s: Sizes, ends: &[u8], words: &mut [u64], out: &mut [u8])
-    requires { ⌜ (Read (now table) (now bundle)) × (s ≡ sizesOf (now table) (now bundle)) × (EndsTo (s .types) (now table) (now ends) (s .rules)) × (length (now words) ≡ 580) × (length (now out) ≡ length (now bundle)) × (ranWith (now table) (now bundle) .refusal ≡ 0) ⌝ }
-    ensures { λ r. ⌜ now (out .exit) ≡ translationWith (now (table .entry)) (now (bundle .entry)) ⌝ }
+// The bundle that runs, with its steps in the form that is asked for, and that form as its last byte.
+fn write(
+    table: &[u8],
+    bundle: &[u8],
+    s: Sizes,
+    form: usize,
+    ends: &[u8],
+    words: &mut [u64],
+    out: &mut [u8],
+)
+    requires { ⌜ (Read (now table) (now bundle)) × (form ≤ 2) × (s ≡ sizesOf (now table) (now bundle)) × (EndsTo (s .types) (now table) (now ends) (s .rules)) × (length (now words) ≡ 580) × (length (now out) ≡ length (now bundle)) × (ranWith (now table) (now bundle) .refusal ≡ 0) ⌝ }
+    ensures { λ r. ⌜ now (out .exit) ≡ translationWith (now (table .entry)) (now (bundle .entry)) form ⌝ }
 {
     copy(bundle, out);
     let at = bundle::steps_at(bundle);
     let end = bundle.len() - 8;
-    write_steps(table, bundle, s, ends, words, &mut out[at..end]);
+    write_steps(table, bundle, s, form, ends, words, &mut out[at..end]);
     let last = bundle.len() - 1;
-    out[last] = other(s.form);
+    out[last] = form as u8;
 }
 
 // All bytes of `from`, in their places.
@@ -124,88 +153,118 @@ fn copy(from: &[u8], to: &mut [u8])
     }
 }
 
-// The number of the other form.
-fn other(form: usize) -> u8
-    requires { ⌜ form ≤ 1 ⌝ }
-    ensures { λ r. ⌜ r ≡ 1 - form ⌝ }
-{
-    if form == 0 { 1 } else { 0 }
-}
-
-// The bundle's steps in the other form, in place of its own.
+// The bundle's steps in the form that is asked for, in place of its own.
 fn write_steps(
     table: &[u8],
     bundle: &[u8],
     s: Sizes,
+    form: usize,
     ends: &[u8],
     words: &mut [u64],
     steps: &mut [u8],
 )
-    requires { ⌜ (Read (now table) (now bundle)) × (s ≡ sizesOf (now table) (now bundle)) × (EndsTo (s .types) (now table) (now ends) (s .rules)) × (length (now words) ≡ 580) × (now steps ≡ stepsOf (now bundle)) × (ranWith (now table) (now bundle) .refusal ≡ 0) ⌝ }
-    ensures { λ r. ⌜ now (steps .exit) ≡ bytesOf (moved (s .form) (designOf s (now (table .entry))) (start (s .types) (forms.wide 0) (startsOf (now (bundle .entry)))) (stepsIn (now (steps .entry)))) ⌝ }
+    requires { ⌜ (Read (now table) (now bundle)) × (form ≤ 2) × (s ≡ sizesOf (now table) (now bundle)) × (EndsTo (s .types) (now table) (now ends) (s .rules)) × (length (now words) ≡ 580) × (now steps ≡ stepsOf (now bundle)) × (ranWith (now table) (now bundle) .refusal ≡ 0) ⌝ }
+    ensures { λ r. ⌜ now (steps .exit) ≡ bytesOf (moved (s .form) form (designOf s (now (table .entry))) (beginOf (now (table .entry)) (now (bundle .entry))) (stepsIn (now (steps .entry)))) ⌝ }
 {
-    if s.form == 0 {
-        write_tags(s.correct, steps);
+    if form < s.form {
+        refine(table, bundle, s, form, ends, words, steps);
         return;
     }
-    write_senders(table, bundle, message_form(s), ends, words, steps);
+    coarsen(s.form, form, s.correct, steps);
 }
 
-// ---- into counting form
-// Each sender becomes its tag.
-fn write_tags(c: usize, steps: &mut [u8])
-    requires { ⌜ (length (now steps) ≤ 16384) × (length (now steps) ≡ length (now steps) / 4 * 4) ⌝ }
-    ensures { λ r. ⌜ now (steps .exit) ≡ bytesOf (map (tagBy c) (stepsIn (now (steps .entry)))) ⌝ }
+// ---- into a coarser form
+// From form k, one form after the other, up to the one that is asked for.
+fn coarsen(k: usize, form: usize, c: usize, steps: &mut [u8])
+    requires { ⌜ (k ≤ form) × (form ≤ 2) × (Records (now steps)) ⌝ }
+    ensures { λ r. ⌜ now (steps .exit) ≡ bytesOf (coarser (form - k) k c (stepsIn (now (steps .entry)))) ⌝ }
+{
+    let mut j = k;
+    while j < form {
+        write_tags(j, c, steps);
+        j += 1;
+    }
+}
+
+// Each source of form j becomes its tag.
+fn write_tags(j: usize, c: usize, steps: &mut [u8])
+    requires { ⌜ Records (now steps) ⌝ }
+    ensures { λ r. ⌜ now (steps .exit) ≡ bytesOf (map (tagBy j c) (stepsIn (now (steps .entry)))) ⌝ }
 {
     let total = steps.len() / 4;
     let mut i = 0;
     while i < total {
-        tag_at(c, steps, i);
+        tag_at(j, c, steps, i);
         i += 1;
     }
 }
 
-// The sender of record i becomes its tag.
-fn tag_at(c: usize, steps: &mut [u8], i: usize)
+// The source of record i becomes its tag.
+fn tag_at(j: usize, c: usize, steps: &mut [u8], i: usize)
     requires { ⌜ (i < 4096) × (i * 4 + 3 < length (now steps)) ⌝ }
-    ensures { λ r. ⌜ now (steps .exit) ≡ set (now (steps .entry)) (i * 4 + 3) (tagBy c (recordAt (now (steps .entry)) i) .source) ⌝ }
+    ensures { λ r. ⌜ now (steps .exit) ≡ set (now (steps .entry)) (i * 4 + 3) (tagBy j c (recordAt (now (steps .entry)) i) .source) ⌝ }
 {
     let at = i * 4;
     let m = fault::byte_at(steps, at + 2);
     let q = fault::byte_at(steps, at + 3);
-    steps[at + 3] = tag(c, m, q);
+    steps[at + 3] = tag(j, c, m, q);
 }
 
-// The source of a step in counting form: the tag of its sender, or 255 where there is no message.
-fn tag(c: usize, m: usize, q: usize) -> u8
+// The source of a step one form on: its tag, or 255 where there is no message.
+fn tag(j: usize, c: usize, m: usize, q: usize) -> u8
     requires { ⌜ q < 256 ⌝ }
-    ensures { λ r. ⌜ r ≡ (q if silentBytes m q else tagOf c q) ⌝ }
+    ensures { λ r. ⌜ r ≡ (q if silentBytes m q else tagOf j c q) ⌝ }
 {
     if engine::step::silent(m, q) {
         return q as u8;
     }
+    if j != 0 {
+        return 0;
+    }
     if q < c { 0 } else { 1 }
 }
 
-// ---- into message form
-// The same numbers, in message form.
-fn message_form(s: Sizes) -> Sizes
-    ensures { λ r. ⌜ r ≡ inMessageForm s ⌝ }
+// ---- into a finer form
+// From the bundle's own form, one form after the other, down to the one that is asked for.
+fn refine(
+    table: &[u8],
+    bundle: &[u8],
+    s: Sizes,
+    form: usize,
+    ends: &[u8],
+    words: &mut [u64],
+    steps: &mut [u8],
+)
+    requires { ⌜ (Read (now table) (now bundle)) × (form ≤ s .form) × (s ≡ sizesOf (now table) (now bundle)) × (EndsTo (s .types) (now table) (now ends) (s .rules)) × (length (now words) ≡ 580) × (now steps ≡ stepsOf (now bundle)) × (ranWith (now table) (now bundle) .refusal ≡ 0) ⌝ }
+    ensures { λ r. ⌜ now (steps .exit) ≡ bytesOf (finer (s .form - form) form (designOf s (now (table .entry))) (beginOf (now (table .entry)) (now (bundle .entry))) (stepsIn (now (steps .entry)))) ⌝ }
 {
+    let mut j = s.form;
+    while form < j {
+        j -= 1;
+        write_sources(table, bundle, in_form(s, j), ends, words, steps);
+    }
+}
+
+// The same numbers, in form k.
+fn in_form(s: Sizes, k: usize) -> Sizes
+    requires { ⌜ s .types ≤ 4 ⌝ }
+    ensures { λ r. ⌜ r ≡ inForm k s ⌝ }
+{
+    let wide = engine::form::wide(k);
     Sizes {
-        form: 0,
+        form: k,
         correct: s.correct,
         faulty: s.faulty,
         t: s.t,
         types: s.types,
         rules: s.rules,
-        wide: 1,
-        row: s.types,
+        wide,
+        row: s.types * wide,
     }
 }
 
-// Each tag becomes the lowest sender of its class that is in transit, along the run in message form from the bundle's starts.
-fn write_senders(
+// Each tag becomes the lowest of its sources that is in transit, along the run in their form from the bundle's starts.
+fn write_sources(
     table: &[u8],
     bundle: &[u8],
     s: Sizes,
@@ -213,8 +272,9 @@ fn write_senders(
     words: &mut [u64],
     steps: &mut [u8],
 )
-    requires { ⌜ (Read (now table) (now bundle)) × (s ≡ inMessageForm (sizesOf (now table) (now bundle))) × (EndsTo (s .types) (now table) (now ends) (s .rules)) × (length (now words) ≡ 580) × (now steps ≡ stepsOf (now bundle)) × (RunsLow s (now table) (start (s .types) (forms.wide 0) (startsOf (now bundle))) (now steps)) ⌝ }
-    ensures { λ r. ⌜ now (steps .exit) ≡ bytesOf (lowAll (designOf s (now (table .entry))) (start (s .types) (forms.wide 0) (startsOf (now (bundle .entry)))) (stepsIn (now (steps .entry)))) ⌝ }
+    requires { ⌜ (Read (now table) (now bundle)) × (s ≡ inForm (s .form) (sizesOf (now table) (now bundle))) × (EndsTo (s .types) (now table) (now ends) (s .rules)) × (length (now words) ≡ 580) × (Records (now steps)) × (RunsLow s (now table) (beginOf (now table) (now bundle) (s .form)) (now steps)) ⌝ }
+    ensures { λ r. ⌜ now (steps .exit) ≡ bytesOf (lowAll (s .form) (designOf s (now (table .entry))) (beginOf (now (table .entry)) (now (bundle .entry)) (s .form)) (stepsIn (now (steps .entry)))) ⌝ }
+    ensures { λ r. ⌜ length (now (words .exit)) ≡ 580 ⌝ }
 {
     let need = engine::words::room(s);
     write_from_start(table, bundle, s, ends, &mut words[..need], steps);
@@ -229,8 +289,8 @@ fn write_from_start(
     w: &mut [u64],
     steps: &mut [u8],
 )
-    requires { ⌜ (Read (now table) (now bundle)) × (s ≡ inMessageForm (sizesOf (now table) (now bundle))) × (EndsTo (s .types) (now table) (now ends) (s .rules)) × (length (now w) ≡ roomOf s) × (now steps ≡ stepsOf (now bundle)) × (RunsLow s (now table) (start (s .types) (forms.wide 0) (startsOf (now bundle))) (now steps)) ⌝ }
-    ensures { λ r. ⌜ now (steps .exit) ≡ bytesOf (lowAll (designOf s (now (table .entry))) (start (s .types) (forms.wide 0) (startsOf (now (bundle .entry)))) (stepsIn (now (steps .entry)))) ⌝ }
+    requires { ⌜ (Read (now table) (now bundle)) × (s ≡ inForm (s .form) (sizesOf (now table) (now bundle))) × (EndsTo (s .types) (now table) (now ends) (s .rules)) × (length (now w) ≡ roomOf s) × (Records (now steps)) × (RunsLow s (now table) (beginOf (now table) (now bundle) (s .form)) (now steps)) ⌝ }
+    ensures { λ r. ⌜ now (steps .exit) ≡ bytesOf (lowAll (s .form) (designOf s (now (table .entry))) (beginOf (now (table .entry)) (now (bundle .entry)) (s .form)) (stepsIn (now (steps .entry)))) ⌝ }
 {
     engine::begin(bundle::starts(bundle), s, w);
     write_along(table, s, ends, w, steps);
@@ -238,40 +298,43 @@ fn write_from_start(
 
 // The same, along the run from the words.
 fn write_along(table: &[u8], s: Sizes, ends: &[u8], w: &mut [u64], steps: &mut [u8])
-    requires { ⌜ (Suits s (now table)) × (EndsTo (s .types) (now table) (now ends) (s .rules)) × (s .form ≡ 0) × (Holds s 16 (now w)) × (length (now steps) ≤ 16384) × (length (now steps) ≡ length (now steps) / 4 * 4) × (RunsLow s (now table) (now w) (now steps)) ⌝ }
-    ensures { λ r. ⌜ now (steps .exit) ≡ bytesOf (lowAll (designOf s (now (table .entry))) (now (w .entry)) (stepsIn (now (steps .entry)))) ⌝ }
+    requires { ⌜ (Suits s (now table)) × (EndsTo (s .types) (now table) (now ends) (s .rules)) × (Holds s 16 (now w)) × (Records (now steps)) × (RunsLow s (now table) (now w) (now steps)) ⌝ }
+    ensures { λ r. ⌜ now (steps .exit) ≡ bytesOf (lowAll (s .form) (designOf s (now (table .entry))) (now (w .entry)) (stepsIn (now (steps .entry)))) ⌝ }
 {
     let total = steps.len() / 4;
     let mut i = 0;
     while i < total {
-        sender_at(table, s, ends, w, steps, i);
+        source_at(table, s, ends, w, steps, i);
         i += 1;
     }
 }
 
-// The tag of record i becomes its sender, and the step is taken.
-fn sender_at(table: &[u8], s: Sizes, ends: &[u8], w: &mut [u64], steps: &mut [u8], i: usize)
-    requires { ⌜ (Suits s (now table)) × (EndsTo (s .types) (now table) (now ends) (s .rules)) × (s .form ≡ 0) × (Holds s 900000 (now w)) × (i < 4096) × (i * 4 + 3 < length (now steps)) × (stepFault 0 (designOf s (now table)) (now w) (lowest (designOf s (now table)) (now w) (recordAt (now steps) i)) ≡ 0) ⌝ }
-    ensures { λ r. ⌜ now (w .exit) ≡ stepped 0 (designOf s (now (table .entry))) (now (w .entry)) (lowest (designOf s (now (table .entry))) (now (w .entry)) (recordAt (now (steps .entry)) i)) ⌝ }
-    ensures { λ r. ⌜ now (steps .exit) ≡ set (now (steps .entry)) (i * 4 + 3) (lowest (designOf s (now (table .entry))) (now (w .entry)) (recordAt (now (steps .entry)) i) .source) ⌝ }
+// The tag of record i becomes its source, and the step is taken.
+fn source_at(table: &[u8], s: Sizes, ends: &[u8], w: &mut [u64], steps: &mut [u8], i: usize)
+    requires { ⌜ (Suits s (now table)) × (EndsTo (s .types) (now table) (now ends) (s .rules)) × (Holds s 900000 (now w)) × (i < 4096) × (i * 4 + 3 < length (now steps)) × (stepFault (s .form) (designOf s (now table)) (now w) (lowest (s .form) (designOf s (now table)) (now w) (recordAt (now steps) i)) ≡ 0) ⌝ }
+    ensures { λ r. ⌜ now (w .exit) ≡ stepped (s .form) (designOf s (now (table .entry))) (now (w .entry)) (lowest (s .form) (designOf s (now (table .entry))) (now (w .entry)) (recordAt (now (steps .entry)) i)) ⌝ }
+    ensures { λ r. ⌜ now (steps .exit) ≡ set (now (steps .entry)) (i * 4 + 3) (lowest (s .form) (designOf s (now (table .entry))) (now (w .entry)) (recordAt (now (steps .entry)) i) .source) ⌝ }
 {
     let at = i * 4;
     let p = fault::byte_at(steps, at);
     let r = fault::byte_at(steps, at + 1);
     let m = fault::byte_at(steps, at + 2);
     let tag = fault::byte_at(steps, at + 3);
-    let q = sender(s, w, p, m, tag);
+    let q = source(s, w, p, m, tag);
     engine::step::apply_step(table, s, ends, w, p, r, m, q);
     steps[at + 3] = q as u8;
 }
 
-// The source of a step in message form: the lowest sender of its tag that is in transit, or 255 where there is no message.
-fn sender(s: Sizes, w: &[u64], p: usize, m: usize, tag: usize) -> usize
-    requires { ⌜ (Bounded s) × (s .form ≡ 0) × (length (now w) ≡ roomOf s) × (tag < 256) × (silentBytes m tag ≡ false → (At s p m) × (tag < 2)) ⌝ }
+// The source of a step: the lowest of its tag that is in transit, or 255 where there is no message.
+fn source(s: Sizes, w: &[u64], p: usize, m: usize, tag: usize) -> usize
+    requires { ⌜ (Bounded s) × (Holds s 1000000 (now w)) × (tag < 256) × (silentBytes m tag ≡ false → (At s p m) × (tag < column (suc (s .form)) (s .correct) (s .faulty) .sources)) ⌝ }
     ensures { λ r. ⌜ (r ≡ (tag if silentBytes m tag else lowestIn s (now (w .entry)) p m tag)) × (r < 256) ⌝ }
 {
     if engine::step::silent(m, tag) {
         return tag;
+    }
+    if s.form != 0 {
+        return engine::words::first_source(s, w, p, m);
     }
     let i = engine::words::cell_at(s, p, m);
     let j = engine::words::sent_at(s, m);
@@ -281,7 +344,7 @@ fn sender(s: Sizes, w: &[u64], p: usize, m: usize, tag: usize) -> usize
 // The lowest sender of the tag that is in transit, by the set that was received and the set that was sent.
 fn lowest_of(c: usize, f: usize, tag: usize, got: u64, out: u64) -> usize
     requires { ⌜ (c + f ≤ 64) × (tag < 2) ⌝ }
-    ensures { λ r. ⌜ (r ≡ least (c + f) (λ q. eqb (tagOf c q) tag && passing c f .inTransit q got out)) × (r ≤ 64) ⌝ }
+    ensures { λ r. ⌜ (r ≡ least (c + f) (λ q. eqb (tagOf 0 c q) tag && passing c f .inTransit q got out)) × (r ≤ 64) ⌝ }
 {
     let n = c + f;
     if tag == 0 {

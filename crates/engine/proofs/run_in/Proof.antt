@@ -1,6 +1,7 @@
 use mathlib.Core.Path.{ap, _∙_}
 use borrow.Author.Needs.{needs}
 use Rattle.engine.proofs.EntryLaws.{suits, starts-long, start-holds, steps-few, same-run}
+use Rattle.engine.specs.declared.Sizes.{Sizes}
 use Rattle.engine.specs.Entry.{ranAnswer}
 use Rattle.paper.specs.Run.{Ran}
 use Rattle.engine.proofs.run_in.Statement.{statement}
@@ -13,11 +14,11 @@ run-in-spec =
     (λ c κs. search needs)
     (λ c κs. let st = c .before .before .before .before .before .before .before in
     let a = st .args in
-    (starts-long (a .table .now) (a .bundle .now) (st .pre .0) (st .pre .1) (c .before .starts .ensures), st .pre .3))
+    (starts-long (a .table .now) (a .bundle .now) (st .pre .0) (ap (λ (x : Sizes). x .correct) (st .pre .1)) (c .before .starts .ensures), st .pre .3))
     (λ c κs. search needs)
     (λ c κs. let st = c .before .before .before .before .before .before .before .before .before .before .before .before in
     let a = st .args in
-    let f = steps-few (a .table .now) (a .bundle .now) (st .pre .0) (c .before .steps .ensures) in (suits (a .table .now) (a .bundle .now) (st .pre .0) (st .pre .1), st .pre .2, start-holds (a .table .now) (a .bundle .now) (st .pre .0) (st .pre .1) (c .before .before .before .before .before .before .starts .ensures) (c .before .before .before .before .begin .ensures), f .0, f .1))
+    let f = steps-few (a .table .now) (a .bundle .now) (st .pre .0) (c .before .steps .ensures) in (suits (a .table .now) (a .bundle .now) (st .pre .0) (st .pre .1), st .pre .2, start-holds (a .table .now) (a .bundle .now) (st .pre .0) (ap (λ (x : Sizes). x .correct) (st .pre .1)) (c .before .before .before .before .before .before .starts .ensures) (c .before .before .before .before .begin .ensures), f .0, f .1))
     (λ c. search needs)
     (λ c. let st = c .before .before .before .before .before .before .before .before .before .before .before .before .before .before .before in
     let a = st .args in

@@ -1,7 +1,7 @@
 use borrow.Author.Needs.{needs}
 use native.Mathlib.Omega.{arith}
 use Rattle.fault.proofs.FaultLaws.{if-yes, if-no}
-use Rattle.translate.proofs.StepLaws.{tag-zero, tag-one}
+use Rattle.translate.proofs.StepLaws.{tag-none, tag-zero, tag-one}
 use Rattle.translate.proofs.tag.Statement.{statement}
 use Rattle.translate.proofs.tag.Tie as tie
 
@@ -12,5 +12,9 @@ tag-spec =
     (λ c κs. search needs)
     (λ c. search needs)
     (λ c. search if-yes)
-    (λ c. search (if-no, tag-zero))
-    (λ c. search (if-no, tag-one)))
+    (λ c. let a = c .before .before .before .args in
+    if-no (a .q) (c .before .before .silent .ensures) (c .before .if1 .left) (tag-none (a .j) (a .c) (a .q) (c .if2 .taken)))
+    (λ c. let a = c .before .before .before .before .args in
+    if-no (a .q) (c .before .before .before .silent .ensures) (c .before .before .if1 .left) (tag-zero (a .j) (a .c) (a .q) (c .before .if2 .left) (c .if3 .taken)))
+    (λ c. let a = c .before .before .before .before .args in
+    if-no (a .q) (c .before .before .before .silent .ensures) (c .before .before .if1 .left) (tag-one (a .j) (a .c) (a .q) (c .before .if2 .left) (omega (arith, c .if3 .left)))))

@@ -17,4 +17,4 @@ tag-at-spec =
     (λ c. search needs)
     (λ c. search needs)
     (λ c. let a = c .before .before .before .before .before .before .args in
-    tag-set (a .c) (a .steps .now) (a .i) (c .before .before .before .byte-at .ensures .0) (c .before .byte-at2 .ensures .0) (c .tag .ensures)))
+    tag-set (a .j) (a .c) (a .steps .now) (a .i) (c .before .before .before .byte-at .ensures .0) (c .before .byte-at2 .ensures .0) (c .tag .ensures)))

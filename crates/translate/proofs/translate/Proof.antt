@@ -1,10 +1,8 @@
-use mathlib.Core.Path.{refl, sym}
-use lib.ListN.{length, take-append-drop}
-use native.Mathlib.Omega.{arith}
+use mathlib.Core.Path.{ap, _∙_}
+use Prim.Native.Nat.{ℕ}
+use lib.ListN.{length}
 use borrow.Author.Needs.{needs}
-use lib.Seq.{length-take-le}
-use Rattle.bundle.proofs.BundleLaws.{read-by}
-use Rattle.translate.proofs.EntryLaws.{enter-refused, enter-short, enter-long}
+use Rattle.translate.specs.Entry.{translateToAnswer, translateToBytes}
 use Rattle.translate.proofs.translate.Statement.{statement}
 use Rattle.translate.proofs.translate.Tie as tie
 
@@ -14,19 +12,9 @@ translate-spec =
     (tie.spec
     (λ c κs. search needs)
     (λ c κs. search needs)
-    (λ c. let a = c .before .before .before .before .before .before .before .args in
-    let E = enter-refused (a .bundle .now) (a .standing .now) (a .out .now) (c .before .before .before .read-fault .ensures) (c .before .if1 .taken) (c .answered .ensures) in (E .answer, E .bytes))
-    (λ c κs. search needs)
+    (λ c. search needs)
     (λ c. let a = c .before .before .before .before .before .before .before .before .args in
-    let E = enter-short (a .bundle .now) (a .standing .now) (a .out .now) (c .before .before .before .before .read-fault .ensures) (c .before .before .if1 .left) (c .before .if2 .taken) (c .answered2 .ensures) in (E .answer, E .bytes))
-    (λ c κs. search needs)
-    (λ c. search needs)
-    (λ c. search needs)
-    (λ c. search needs)
-    (λ c. search needs)
-    (λ c. sym (length-take-le _ _ (c .before .before .before .before .before .if2 .left)))
-    (λ c κs. let a = c .before .before .before .before .before .before .before .before .before .before .before .before .args in
-    (read-by (a .bundle .now) (a .standing .now) (c .before .before .before .before .before .before .before .before .read-fault .ensures) (c .before .before .before .before .before .before .if1 .left) (c .before .before .before .before .table-in-use .ensures), refl, refl, refl, length-take-le _ _ (c .before .before .before .before .before .if2 .left)))
-    (λ c. search needs)
-    (λ c. let a = c .before .before .before .before .before .before .before .before .before .before .before .before .before .before .before .before .before .before .args in
-    let E = enter-long (a .bundle .now) (a .standing .now) (a .out .now) (c .before .before .before .before .before .before .before .before .before .before .before .before .before .before .read-fault .ensures) (c .before .before .before .before .before .before .before .before .before .before .before .before .if1 .left) (c .before .before .before .before .before .before .before .before .before .before .before .if2 .left) (c .before .before .before .before .before .before .before .before .before .before .table-in-use .ensures) (record { answer = c .before .before .before .before .before .translate-in .ensures .0; bytes = c .before .before .before .before .before .translate-in .ensures .1 }) (take-append-drop (length (a .bundle .now)) (a .out .now)) in (E .answer, E .bytes)))
+    let e = c .before .before .before .before .usual-form .ensures in (
+      c .before .before .translate-to .ensures .0 ∙ ap (λ (k : ℕ). translateToAnswer (a .bundle .now) (a .standing .now) k (length (a .out .now))) e,
+      c .before .before .translate-to .ensures .1 ∙ ap (λ (k : ℕ). translateToBytes (a .bundle .now) (a .standing .now) k (a .out .now)) e,
+    )))

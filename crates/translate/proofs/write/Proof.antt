@@ -3,7 +3,6 @@ use Prim.Native.Nat.{_-_}
 use native.Mathlib.Omega.{arith}
 use borrow.Author.Needs.{needs}
 use lib.ListN.{length}
-use Rattle.engine.specs.declared.Sizes.{Sizes}
 use Rattle.translate.proofs.WriteLaws.{translation-long, steps-part, all-written}
 use Rattle.translate.proofs.write.Statement.{statement}
 use Rattle.translate.proofs.write.Tie as tie
@@ -20,14 +19,14 @@ write-spec =
     (λ c. search needs)
     (λ c κs. let st = c .before .before .before .before .before .before .before .before .before .before .before .before in
     let a = st .args in
-    (st .pre .0, st .pre .1, st .pre .2, st .pre .3, steps-part (a .table .now) (a .bundle .now) (st .pre .0) (c .before .before .steps-at .ensures .0) (c .before .before .before .before .before .copy .ensures) (length (a .bundle .now) - 8 - c .before .before .steps-at .result) (omega (arith, c .before .before .steps-at .ensures .1)), st .pre .5))
+    (st .pre .0, st .pre .1, st .pre .2, st .pre .3, st .pre .4, steps-part (a .table .now) (a .bundle .now) (st .pre .0) (c .before .before .steps-at .ensures .0) (c .before .before .before .before .before .copy .ensures) (length (a .bundle .now) - 8 - c .before .before .steps-at .result) (omega (arith, c .before .before .steps-at .ensures .1)), st .pre .6))
     (λ c. search needs)
-    (λ c κs. omega (arith, ap (λ (x : Sizes). x .form) (c .before .before .before .before .before .before .before .before .before .before .before .before .before .before .before .before .before .pre .1), c .before .before .before .before .before .before .before .before .before .before .before .before .before .before .before .before .before .pre .0 .admitted .form))
+    (λ c. omega (arith, c .before .before .before .before .before .before .before .before .before .before .before .before .before .before .before .before .before .pre .1))
     (λ c. search needs)
     (λ c. search needs)
-    (λ c. let st = c .before .before .before .before .before .before .before .before .before .before .before .before .before .before .before .before .before .before in
+    (λ c. let st = c .before .before .before .before .before .before .before .before .before .before .before .before .before .before .before .before .before in
     let a = st .args in
-    ap length (all-written (a .table .now) (a .bundle .now) (st .pre .0) (c .before .before .before .before .before .before .before .before .steps-at .ensures .0) (c .before .before .before .before .before .before .before .before .before .before .before .copy .ensures) (st .pre .1) (c .before .before .before .before .before .write-steps .ensures) (c .other .ensures)) ∙ translation-long (a .table .now) (a .bundle .now) (st .pre .0) ∙ sym (st .pre .4))
-    (λ c. let st = c .before .before .before .before .before .before .before .before .before .before .before .before .before .before .before .before .before .before in
+    ap length (all-written (a .table .now) (a .bundle .now) (st .pre .0) (c .before .before .before .before .before .before .before .steps-at .ensures .0) (c .before .before .before .before .before .before .before .before .before .before .copy .ensures) (a .form) (st .pre .2) (c .before .before .before .before .write-steps .ensures)) ∙ translation-long (a .table .now) (a .bundle .now) (st .pre .0) (a .form) ∙ sym (st .pre .5))
+    (λ c. let st = c .before .before .before .before .before .before .before .before .before .before .before .before .before .before .before .before .before in
     let a = st .args in
-    all-written (a .table .now) (a .bundle .now) (st .pre .0) (c .before .before .before .before .before .before .before .before .steps-at .ensures .0) (c .before .before .before .before .before .before .before .before .before .before .before .copy .ensures) (st .pre .1) (c .before .before .before .before .before .write-steps .ensures) (c .other .ensures)))
+    all-written (a .table .now) (a .bundle .now) (st .pre .0) (c .before .before .before .before .before .before .before .steps-at .ensures .0) (c .before .before .before .before .before .before .before .before .before .before .copy .ensures) (a .form) (st .pre .2) (c .before .before .before .before .write-steps .ensures)))

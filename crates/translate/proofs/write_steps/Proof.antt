@@ -1,17 +1,12 @@
-use mathlib.Core.Path.{subst⁻¹, ap, _∙_}
+use mathlib.Core.Path.{sym, ap, _∙_}
 use Prim.Native.Nat.{ℕ}
+use native.Mathlib.Omega.{arith}
 use borrow.Author.Needs.{needs}
-use Rattle.bundle.specs.Bundle.{startsOf}
-use Rattle.paper.specs.Words.{start}
-use Rattle.paper.specs.Form.{wide}
 use Rattle.paper.specs.Run.{stepsIn}
-use Rattle.engine.specs.declared.Sizes.{Sizes}
+use Rattle.agree.proofs.Runs.{coarser-only, finer-only}
 use Rattle.engine.specs.Design.{designOf}
-use Rattle.engine.specs.Facts.{EndsTo}
 use Rattle.engine.proofs.EntryLaws.{steps-few}
-use Rattle.translate.specs.Facts.{inMessageForm}
-use Rattle.translate.proofs.ReadLaws.{runs-low}
-use Rattle.translate.proofs.WriteLaws.{moved-tags, moved-senders}
+use Rattle.translate.specs.Written.{bytesOf, beginOf}
 use Rattle.translate.proofs.write_steps.Statement.{statement}
 use Rattle.translate.proofs.write_steps.Tie as tie
 
@@ -19,16 +14,15 @@ pub write-steps-spec : {M : Type 1} → statement M
 write-steps-spec =
     tie.close
     (tie.spec
+    (λ c κs. let st = c .before .before .before .before .before .before .before .before .before in
+    (st .pre .0, omega (arith, c .before .before .if1 .taken), st .pre .2, st .pre .3, st .pre .4, st .pre .5, st .pre .6))
+    (λ c. search needs)
+    (λ c. search needs)
+    (λ c. let a = c .before .before .before .before .before .before .before .before .before .before .before .before .before .before .args in
+    c .before .before .before .before .refine .ensures ∙ ap bytesOf (sym (finer-only (designOf (a .s) (a .table .now)) (beginOf (a .table .now) (a .bundle .now)) (a .s .form) (stepsIn (a .steps .now)) (a .form) (omega (arith, c .before .before .before .before .before .before .before .if1 .taken)))))
     (λ c κs. let st = c .before .before .before .before .before .before .before .before in
-    steps-few (st .args .table .now) (st .args .bundle .now) (st .pre .0) (st .pre .4))
+    let f = steps-few (st .args .table .now) (st .args .bundle .now) (st .pre .0) (st .pre .5) in
+    (omega (arith, c .before .if1 .left), st .pre .1, record { few = f .0; whole = f .1 }))
     (λ c. search needs)
     (λ c. let a = c .before .before .before .before .before .before .before .before .before .before .before .args in
-    moved-tags (a .s .form) (designOf (a .s) (a .table .now)) (start (a .s .types) (wide 0) (startsOf (a .bundle .now))) (stepsIn (a .steps .now)) (c .before .before .before .before .if1 .taken) (c .before .before .write-tags .ensures))
-    (λ c κs. search needs)
-    (λ c κs. let st = c .before .before .before .before .before .before .before .before .before .before in
-    let a = st .args in
-    (st .pre .0, c .before .before .message-form .ensures ∙ ap inMessageForm (st .pre .1), subst⁻¹ (λ (x : Sizes). EndsTo (x .types) (a .table .now) (a .ends .now) (x .rules)) (c .before .before .message-form .ensures) (st .pre .2), st .pre .3, st .pre .4, runs-low (a .table .now) (a .bundle .now) (st .pre .0) (st .pre .1) (c .before .before .message-form .ensures) (c .before .before .before .if1 .left) (st .pre .4) (st .pre .5)))
-    (λ c. search needs)
-    (λ c. search needs)
-    (λ c. let a = c .before .before .before .before .before .before .before .before .before .before .before .before .before .before .before .args in
-    moved-senders (a .s) (a .table .now) (startsOf (a .bundle .now)) (stepsIn (a .steps .now)) (c .before .before .before .before .before .before .before .message-form .ensures) (c .before .before .before .before .before .before .before .before .if1 .left) (c .before .before .before .before .write-senders .ensures)))
+    c .before .before .coarsen .ensures ∙ ap bytesOf (sym (coarser-only (designOf (a .s) (a .table .now)) (beginOf (a .table .now) (a .bundle .now)) (a .s .form) (stepsIn (a .steps .now)) (a .form) (omega (arith, c .before .before .before .before .if1 .left))))))

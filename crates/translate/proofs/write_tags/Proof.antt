@@ -8,10 +8,10 @@ use Rattle.translate.proofs.write_tags.Statement.{statement}
 use Rattle.translate.proofs.write_tags.Tie as tie
 
 abbrev Inv-loop : tie.InvT-loop
-Inv-loop c steps₀ total i₀ steps i = (i ≤ total) × Tags c total steps₀ i steps
+Inv-loop j c steps₀ total i₀ steps i = (i ≤ total) × Tags j c total steps₀ i steps
 
 abbrev μ-loop : tie.MeasureT-loop
-μ-loop c steps₀ total i₀ steps i = total - i
+μ-loop j c steps₀ total i₀ steps i = total - i
 
 pub write-tags-spec : {M : Type 1} → statement M
 write-tags-spec =
@@ -20,15 +20,15 @@ write-tags-spec =
     Inv-loop
     μ-loop
     (λ c. let st = c .before in
-    (omega arith, tags-none (st .args .c) (length (st .args .steps .now) / 4) (st .args .steps .now) (st .pre .1)))
+    (omega arith, tags-none (st .args .j) (st .args .c) (length (st .args .steps .now) / 4) (st .args .steps .now) (st .pre .whole)))
     (λ c κs. let st = c .before .before .before .before in
-    (omega (arith, c .before .loop-test .taken, st .pre .0), omega (arith, c .before .loop-test .taken, c .before .before .loop .inv .1 .long)))
+    (omega (arith, c .before .loop-test .taken, st .pre .few), omega (arith, c .before .loop-test .taken, c .before .before .loop .inv .1 .long)))
     (λ c. let st = c .before .before .before .before .before .before .before in
-    omega (arith, c .before .before .before .before .loop-test .taken, st .pre .0))
+    omega (arith, c .before .before .before .before .loop-test .taken, st .pre .few))
     (λ c. omega (arith, c .before .before .before .before .loop-test .taken))
     (λ c. let st = c .before .before .before .before .before .before .before in
     let t = c .before .before .before .before .loop-test .taken in
-    (omega (arith, t), tags-more (st .args .c) (length (st .args .steps .now) / 4) (st .args .steps .now) (st .pre .1) (c .before .before .before .before .before .loop .inv .1) t (c .before .before .tag-at .ensures)))
-    (λ c. c .before .loop .inv .1 .long ∙ sym (c .before .before .before .pre .1))
+    (omega (arith, t), tags-more (st .args .j) (st .args .c) (length (st .args .steps .now) / 4) (st .args .steps .now) (st .pre .whole) (c .before .before .before .before .before .loop .inv .1) t (c .before .before .tag-at .ensures)))
+    (λ c. c .before .loop .inv .1 .long ∙ sym (c .before .before .before .pre .whole))
     (λ c. let st = c .before .before .before in
-    tags-all (st .args .c) (length (st .args .steps .now) / 4) (st .args .steps .now) (st .pre .1) (c .before .loop .inv .1) (c .before .loop .inv .0) (omega (arith, c .loop-test .left))))
+    tags-all (st .args .j) (st .args .c) (length (st .args .steps .now) / 4) (st .args .steps .now) (st .pre .whole) (c .before .loop .inv .1) (c .before .loop .inv .0) (omega (arith, c .loop-test .left))))

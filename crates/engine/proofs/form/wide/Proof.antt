@@ -1,7 +1,7 @@
 use mathlib.Core.Path.{_≡_, refl}
 use Prim.Native.Nat.{ℕ, _≤_}
 use native.Mathlib.Omega.{arith}
-use Rattle.engine.proofs.FormCases.{sets, counts}
+use Rattle.engine.proofs.FormCases.{tags, singles}
 use Rattle.paper.specs.Form.{wide}
 use Rattle.engine.proofs.form.wide.Statement.{statement}
 use Rattle.engine.proofs.form.wide.Tie as tie
@@ -11,5 +11,5 @@ unfolding wide
 wide-spec =
     tie.close
     (tie.spec
-    (λ c. sets (λ (k : ℕ). (1 ≡ wide k) × (1 ≤ 1) × (1 ≤ 2)) (refl, omega arith, omega arith) _ (c .if1 .taken))
-    (λ c. counts (λ (k : ℕ). (2 ≡ wide k) × (1 ≤ 2) × (2 ≤ 2)) (λ j. (refl, omega arith, omega arith)) _ (c .if1 .left)))
+    (λ c. tags (λ (k : ℕ). (2 ≡ wide k) × (1 ≤ 2) × (2 ≤ 2)) (refl, omega arith, omega arith) _ (c .if1 .taken))
+    (λ c. singles (λ (k : ℕ). (1 ≡ wide k) × (1 ≤ 1) × (1 ≤ 2)) (refl, omega arith, omega arith) (λ j. (refl, omega arith, omega arith)) _ (c .if1 .left)))

@@ -17,7 +17,7 @@ heard-spec =
     (e, step-left _ _ e (λ z. omega arith)))
     (λ c κs. let st = c .before .before .before .before .before .before .before in
     let a = st .args in
-    (st .pre .0 .bounded, st .pre .3 .board, sym (c .before .before .malformed .ensures) ∙ c .before .if1 .left, st .pre .2 .fits))
+    (st .pre .0 .bounded, st .pre .3 .board, sym (c .before .before .malformed .ensures) ∙ c .before .if1 .left, holds-more (a .s) 900000 1000000 (a .w .now) (omega arith) (st .pre .2)))
     (λ c. search needs)
     (λ c. let st = c .before .before .before .before .before .before .before .before .before in
     let a = st .args in

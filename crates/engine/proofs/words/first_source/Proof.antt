@@ -21,15 +21,16 @@ first-source-spec =
     (λ c. search needs)
     (λ c. let st = c .before .before .before .before .before in
     let a = st .args in
-    omega (arith, st .pre .2, wide-some (a .s .form) .0, c .before .before .before .cell-at .ensures .1))
+    omega (arith, st .pre .2 .fits, wide-some (a .s .form) .0, c .before .before .before .cell-at .ensures .1))
     (λ c. search needs)
     (λ c. let st = c .before .before .before .before .before .before in
     let a = st .args in
-    omega (arith, st .pre .2, c .before .before .before .slot .ensures .0, slot-one (a .s .form), c .before .before .before .before .cell-at .ensures .1))
+    omega (arith, st .pre .2 .fits, c .before .before .before .slot .ensures .0, slot-one (a .s .form), c .before .before .before .before .cell-at .ensures .1))
     (λ c. search needs)
     (λ c. let st = c .before .before .before .before .before .before .before in
     let a = st .args in
-    omega (arith, st .pre .2, c .before .before .before .sent-at .ensures .0, sent-in-room (a .s) (a .m) (st .pre .1 .type)))
-    (λ c κs. search needs)
+    omega (arith, st .pre .2 .fits, c .before .before .before .sent-at .ensures .0, sent-in-room (a .s) (a .m) (st .pre .1 .type)))
+    (λ c κs. let st = c .before .before .before .before .before .before .before in
+    (st .pre .0 .boards, λ ne. st .pre .2 .small ne _))
     (λ c. let a = c .before .before .before .before .before .before .before .before .args in
     c .first-source .ensures ∙ ap₂ (λ got out. least (columnIn (a .s) .sources) (λ q. columnIn (a .s) .inTransit q got out)) (coll-words (a .s .form) (a .s .correct) (a .s .faulty) (a .s .types) (a .p) (a .m) (a .w .now) (c .before .before .before .before .before .before .cell-at .ensures .0) (ap (λ (x : ℕ). c .before .before .before .before .before .before .cell-at .result + x) (c .before .before .before .before .before .slot .ensures .0))) (ap (shown (a .s .form) (a .s .correct) (a .s .faulty)) (sent-word (a .s .correct) (a .s .types) (wide (a .s .form)) (a .m) (a .w .now) (c .before .before .before .before .sent-at .ensures .0)))))

@@ -21,17 +21,17 @@ in-transit-spec =
     (λ c. search needs)
     (λ c. let st = c .before .before .before .before .before in
     let a = st .args in
-    omega (arith, st .pre .3, wide-some (a .s .form) .0, c .before .before .before .cell-at .ensures .1))
+    omega (arith, st .pre .3 .fits, wide-some (a .s .form) .0, c .before .before .before .cell-at .ensures .1))
     (λ c. search needs)
     (λ c. let st = c .before .before .before .before .before .before in
     let a = st .args in
-    omega (arith, st .pre .3, c .before .before .before .slot .ensures .0, slot-one (a .s .form), c .before .before .before .before .cell-at .ensures .1))
+    omega (arith, st .pre .3 .fits, c .before .before .before .slot .ensures .0, slot-one (a .s .form), c .before .before .before .before .cell-at .ensures .1))
     (λ c. search needs)
     (λ c. let st = c .before .before .before .before .before .before .before in
     let a = st .args in
-    omega (arith, st .pre .3, c .before .before .before .sent-at .ensures .0, sent-in-room (a .s) (a .m) (st .pre .1 .type)))
+    omega (arith, st .pre .3 .fits, c .before .before .before .sent-at .ensures .0, sent-in-room (a .s) (a .m) (st .pre .1 .type)))
     (λ c κs. let st = c .before .before .before .before .before .before .before in
     let a = st .args in
-    (source-few (a .s .form) (a .s .correct) (a .s .faulty) (a .q) (st .pre .0 .boards) (st .pre .2 .below), st .pre .0 .boards))
+    ((source-few (a .s .form) (a .s .correct) (a .s .faulty) (a .q) (st .pre .0 .boards) (st .pre .2 .below), st .pre .0 .boards), λ ne. st .pre .3 .small ne _))
     (λ c. let a = c .before .before .before .before .before .before .before .before .args in
     c .in-transit .ensures ∙ ap₂ (columnIn (a .s) .inTransit (a .q)) (coll-words (a .s .form) (a .s .correct) (a .s .faulty) (a .s .types) (a .p) (a .m) (a .w .now) (c .before .before .before .before .before .before .cell-at .ensures .0) (ap (λ (x : ℕ). c .before .before .before .before .before .before .cell-at .result + x) (c .before .before .before .before .before .slot .ensures .0))) (ap (shown (a .s .form) (a .s .correct) (a .s .faulty)) (sent-word (a .s .correct) (a .s .types) (wide (a .s .form)) (a .m) (a .w .now) (c .before .before .before .before .sent-at .ensures .0)))))

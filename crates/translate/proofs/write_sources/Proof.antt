@@ -2,16 +2,16 @@ use mathlib.Core.Path.{sym, _∙_}
 use native.Mathlib.Omega.{arith}
 use borrow.Author.Needs.{needs}
 use lib.Seq.{length-take-le}
-use Rattle.translate.proofs.ReadLaws.{low-suits}
-use Rattle.translate.proofs.write_senders.Statement.{statement}
-use Rattle.translate.proofs.write_senders.Tie as tie
+use Rattle.translate.proofs.ReadLaws.{in-suits}
+use Rattle.translate.proofs.write_sources.Statement.{statement}
+use Rattle.translate.proofs.write_sources.Tie as tie
 
-pub write-senders-spec : {M : Type 1} → statement M
-write-senders-spec =
+pub write-sources-spec : {M : Type 1} → statement M
+write-sources-spec =
     tie.close
     (tie.spec
     (λ c κs. let st = c .before .before .before .before .before in
-    low-suits (st .args .table .now) (st .args .bundle .now) (st .pre .0) (st .pre .1) .bounded)
+    in-suits (st .args .table .now) (st .args .bundle .now) (st .pre .0) (st .pre .1) .bounded)
     (λ c. search needs)
     (λ c. sym (length-take-le _ _ (omega (arith, c .before .before .before .before .before .before .before .pre .3, c .before .room .ensures .1))))
     (λ c κs. let st = c .before .before .before .before .before .before .before .before in

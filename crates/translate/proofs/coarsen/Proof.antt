@@ -1,0 +1,35 @@
+use mathlib.Core.Path.{ap, _∙_}
+use Prim.Native.Nat.{ℕ, _-_, _≤_}
+use native.Mathlib.Omega.{arith}
+use borrow.Author.Needs.{needs}
+use Rattle.paper.specs.Run.{stepsIn}
+use Rattle.agree.specs.Translation.{coarser}
+use Rattle.translate.specs.Written.{bytesOf}
+use Rattle.translate.proofs.RecordLaws.{records-kept}
+use Rattle.translate.proofs.WriteLaws.{Coarsened, coarsened-none, coarsened-more, coarsened-all}
+use Rattle.translate.proofs.coarsen.Statement.{statement}
+use Rattle.translate.proofs.coarsen.Tie as tie
+
+abbrev Inv-loop : tie.InvT-loop
+Inv-loop k form c steps₀ j₀ steps j = (k ≤ j) × (j ≤ form) × Coarsened k c steps₀ j steps
+
+abbrev μ-loop : tie.MeasureT-loop
+μ-loop k form c steps₀ j₀ steps j = form - j
+
+pub coarsen-spec : {M : Type 1} → statement M
+coarsen-spec =
+    tie.close
+    (tie.spec
+    Inv-loop
+    μ-loop
+    (λ c. let st = c .before in
+    (omega arith, st .pre .0, coarsened-none (st .args .k) (st .args .c) (st .args .steps .now) (st .pre .2)))
+    (λ c κs. records-kept (c .before .before .before .before .pre .2) (c .before .before .loop .inv .2 .long))
+    (λ c. omega (arith, c .before .before .before .before .loop-test .taken, c .before .before .before .before .before .before .before .pre .1))
+    (λ c. omega (arith, c .before .before .before .before .loop-test .taken))
+    (λ c. let st = c .before .before .before .before .before .before .before in
+    let inv = c .before .before .before .before .before .loop .inv in
+    (omega (arith, inv .0), omega (arith, c .before .before .before .before .loop-test .taken), coarsened-more (st .args .k) (st .args .c) (st .args .steps .now) (st .pre .2) (inv .0) (inv .2) (c .before .before .write-tags .ensures)))
+    (λ c. c .before .loop .inv .2 .long)
+    (λ c. let inv = c .before .loop .inv in
+    coarsened-all (inv .2) (inv .1) (omega (arith, c .loop-test .left))))
