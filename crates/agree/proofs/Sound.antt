@@ -87,7 +87,7 @@ module _ (k : ℕ) (d : Design) (K : Kept d) (s : Step) (σ σ′ : Conf (column
   abbrev Fits : ℕ → columnOf k d .Coll → Type 0
   Fits m M = Within k (d .boards) (d .faulty) M (σ .sent m)
 
-  heard-within : (q m : ℕ) → q < d .boards → m < d .types → Fits m (σ′ .rcvd q m)
+  pub heard-within : (q m : ℕ) → q < d .boards → m < d .types → Within k (d .boards) (d .faulty) (σ′ .rcvd q m) (σ .sent m)
   heard-within q m hq hm = board (ℕ-discrete q (s .board))
     where
       named : Hears d (columnOf k d) s σ σ′ → Dec (m ≡ s .type) → Fits m (σ′ .rcvd (s .board) m)

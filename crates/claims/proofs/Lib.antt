@@ -5,6 +5,8 @@ pub mod Plain
 pub mod FirstStep
 pub mod FirstAgreed
 pub mod Demand3
+pub mod OneEcho
+pub mod NoEcho
 pub mod OneAnswer
 pub mod DrawnTable
 pub mod Drawings

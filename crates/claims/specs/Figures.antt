@@ -16,6 +16,7 @@ use Rattle.first_step.specs.Entry.{firstAnswer}
 use Rattle.dot.specs.Numbers.{text}
 use Rattle.drawing.specs.Entry.{drawAnswer, drawBytes, undrawAnswer, undrawBytes}
 use Rattle.echo.specs.Echo.{echo, fiveSteps, W, WCounting, WPlain}
+use Rattle.claims.specs.NoEcho.{asking, oneEcho}
 
 pub data Case : Type 0 where
   -- coefficients a, b, d at n and t come to the threshold z
@@ -187,4 +188,15 @@ cases =
     -- Q-2: one board alone has sent, heard itself and accepted; it can only wait, in any form
     firstOf (schedule (1 ∷ []) (0 ∷ 3 ∷ 255 ∷ 255 ∷ 0 ∷ 5 ∷ 0 ∷ 0 ∷ []) 1 0 0) echo First.Nothing ∷
     firstOf (scheduleIn 1 (1 ∷ []) (0 ∷ 3 ∷ 255 ∷ 255 ∷ 0 ∷ 5 ∷ 0 ∷ 0 ∷ []) 1 0 0) echo First.Nothing ∷
-    firstOf (scheduleIn 2 (1 ∷ []) (0 ∷ 3 ∷ 255 ∷ 255 ∷ 0 ∷ 5 ∷ 0 ∷ 0 ∷ []) 1 0 0) echo First.Nothing ∷ []
+    firstOf (scheduleIn 2 (1 ∷ []) (0 ∷ 3 ∷ 255 ∷ 255 ∷ 0 ∷ 5 ∷ 0 ∷ 0 ∷ []) 1 0 0) echo First.Nothing ∷
+    -- Q-5: in V0 a board hears a faulty echo and waits; by rule 1 it is refused, in the forms that P9 leaves out too
+    runs (oneEcho 0 0 3) echo 0 0 1 (0 ∷ 0 ∷ 0 ∷ 8 ∷ 0 ∷ 0 ∷ 0 ∷ []) ∷
+    runs (oneEcho 1 1 1) echo 25 0 0 (0 ∷ 0 ∷ 0 ∷ 0 ∷ 0 ∷ 0 ∷ 0 ∷ 0 ∷ 0 ∷ 0 ∷ []) ∷
+    runs (oneEcho 1 2 0) echo 25 0 0 (0 ∷ 0 ∷ 0 ∷ 0 ∷ 0 ∷ 0 ∷ 0 ∷ []) ∷
+    -- where rule 1 asks for t in place of t + 1, the same step is accepted in every form: board 0 is in SE, and one echo is sent
+    runs (oneEcho 1 0 3) (asking 0) 0 0 1 (2 ∷ 0 ∷ 0 ∷ 8 ∷ 0 ∷ 0 ∷ 1 ∷ []) ∷
+    runs (oneEcho 1 1 1) (asking 0) 0 0 1 (2 ∷ 0 ∷ 0 ∷ 0 ∷ 1 ∷ 0 ∷ 0 ∷ 0 ∷ 0 ∷ 1 ∷ []) ∷
+    runs (oneEcho 1 2 0) (asking 0) 0 0 1 (2 ∷ 0 ∷ 0 ∷ 1 ∷ 0 ∷ 0 ∷ 1 ∷ []) ∷
+    -- after that wait the next board may hear the faulty echo; where rule 1 asks for t, board 0 goes to SE by itself
+    firstOf (oneEcho 0 0 3) echo (First.Step 1 0 0 3) ∷
+    firstOf (oneEcho 0 0 3) (asking 0) (First.Step 0 1 255 255) ∷ []

@@ -4,5 +4,6 @@ pub mod Agreed
 pub mod Plain
 pub mod FirstStep
 pub mod Demand3
+pub mod NoEcho
 pub mod OneAnswer
 pub mod Drawings

@@ -1,0 +1,321 @@
+-- No echo from nothing. One invariant, kept by every move of every form: all boards in V0, nothing sent, and what `Sound` says of it.
+-- So a board counts at most f messages, and f ≤ t is less than rules 1 and 2 ask for: t + 1, and n - t.
+use mathlib.Core.Path.{_≡_, refl, sym, ap, _∙_, subst, subst⁻¹}
+use mathlib.Core.Bool.{Bool, true, false, true≢false}
+use mathlib.Core.List.{List, [], _∷_, _++_}
+use Prim.Native.Nat.{ℕ, zero, suc, _+_, _*_, _-_, _≤_, _<_}
+use native.Mathlib.Omega.{arith}
+use native.Mathlib.Decide.{ℕ-discrete, decLt}
+use lib.Dec.{ltb, leb}
+use lib.IntN.{pos, negℤ, subℕ, _+ℤ_, +ℤ-idr}
+use lib.Signed.{leZ}
+use lib.ListN.{length, getD, take, replicate, length-replicate, getD-replicate, List·getD-append}
+use borrow.Author.Tests.{leb-true, ltb-true}
+use Rattle.senders.specs.Set.{mem}
+use Rattle.senders.proofs.TallyLaws.{count-none, count-at-most}
+use Rattle.senders.proofs.SetLaws.{set-laws, count-laws}
+use Rattle.threshold.specs.Threshold.{signedByte, thresholdOf}
+use Rattle.table.specs.Table.{ruleAt, coefficientsAt}
+use Rattle.paper.specs.Paper.{Design, Conf, Step, Moves, column, newly}
+use Rattle.paper.specs.Words.{size, cellAt, sentAt, state, cell, sent, start}
+use Rattle.paper.specs.Form.{wide, shown}
+use Rattle.paper.specs.Step.{columnOf, rcvdOf, view, stepFault, stepped}
+use Rattle.paper.specs.Run.{Ran, run}
+use Rattle.paper.proofs.WordLaws.{cell-below, start-low, length-start, sent-start}
+use Rattle.paper.proofs.FormLaws.{coll-same, shown-init, shown-inj}
+use Rattle.paper.proofs.StepLaws.{step-moves, length-stepped}
+use Rattle.paper.proofs.RunLaws.{run-goes, run-stops}
+use Rattle.agree.specs.Picture.{Kept, Within, Sound}
+use Rattle.agree.proofs.Sound.{heard-within, still-sound}
+use Rattle.agree.proofs.Runs.{sound-start}
+use Rattle.fault.proofs.FaultLaws.{if-passed}
+use Rattle.bundle.specs.Bundle.{tOf, fOf, formOf, correctOf, tableInUse, startsOf}
+use Rattle.bundle.specs.Refusals.{readFault}
+use Rattle.bundle.specs.Facts.{Read}
+use Rattle.bundle.proofs.BundleLaws.{use-standing, use-front, read-by, read-within}
+use Rattle.engine.specs.Design.{sizesOf, designOf, metAt, roomOf}
+use Rattle.engine.specs.Entry.{designIn, scheduleOf, ranWith, runAnswer, runWords}
+use Rattle.fault.specs.declared.Answer.{Answer}
+use Rattle.engine.proofs.EntryLaws.{enter-refused, enter-short, enter-run}
+use Rattle.first_step.specs.declared.First.{First}
+use Rattle.first_step.specs.First.{Found, none, found, first}
+use Rattle.first_step.specs.Entry.{answerOf, afterRun, firstAnswer}
+use Rattle.first_step.proofs.EntryLaws.{first-refused, first-read}
+use Rattle.claims.specs.NoEcho.{echoTable, Quiet, Admits, designFor, fromV0, Never, Uses, front, beside, InV0, Configures, whole, stopped, NoEcho, Q5}
+use Rattle.claims.proofs.FirstStep.{first-possible}
+use Rattle.claims.proofs.OneEcho.{one-enough}
+
+-- ---- what rules 1 and 2 ask for, from the table's bytes
+one-asks : (n t c : ℕ) → metAt echoTable (coefficientsAt echoTable 1 0) n t c ≡ true → t < c
+unfolding metAt thresholdOf signedByte ruleAt
+one-asks n t c h = omega (arith, leb-true _ c h)
+
+sub-met : (n t c : ℕ) → leZ (subℕ n t) (pos c) ≡ true → n ≤ c + t
+sub-met n t c h = go (ltb n t) refl h
+  where
+    go : (b : Bool) → ltb n t ≡ b → leZ (subℕ n t) (pos c) ≡ true → n ≤ c + t
+    go true e h = omega (arith, ltb-true n t e)
+    go false e h = let l : leb (n - t) c ≡ true = rw e at h in omega (arith, leb-true (n - t) c l)
+
+minus-met : (a b c : ℕ) → leZ (pos a +ℤ negℤ (pos b) +ℤ pos 0) (pos c) ≡ true → a ≤ c + b
+minus-met a zero c h = omega (arith, leb-true _ c h)
+minus-met a (suc b) c h = sub-met a (suc b) c (rw +ℤ-idr at h)
+
+two-asks : (n t c : ℕ) → metAt echoTable (coefficientsAt echoTable 2 0) n t c ≡ true → n ≤ c + t
+unfolding metAt thresholdOf signedByte ruleAt
+two-asks n t c h = omega (arith, minus-met (1 * n) (1 * t) c h)
+
+-- ---- where nothing was sent, a board has heard from faulty ones only
+few-heard : (k C f : ℕ) (M : column k C f .Coll) → Within k C f M (column k C f .init) → column k C f .card M ≤ f
+few-heard zero C f M h = omega (arith, count-laws C f .add-up M, count-none C (mem M) (λ q l. none q (h .0 q l)), count-at-most f (λ i. mem M (C + i)))
+  where
+    none : (q : ℕ) → (mem M q ≡ true → mem 0 q ≡ true) → mem M q ≡ false
+    none q i = go (mem M q) refl
+      where
+        go : (b : Bool) → mem M q ≡ b → mem M q ≡ false
+        go false e = e
+        go true e = absurd (true≢false (sym (i e) ∙ set-laws .empty q))
+few-heard (suc zero) C f c h = omega (arith, h .0, h .1)
+few-heard (suc (suc k)) C f c h = omega (arith, h)
+
+-- ---- the echo table forgets nothing
+module _ (k C f t : ℕ) where
+  abbrev d : Design
+  d = designFor echoTable k C f t
+
+  from-V0 : (ℓ m : ℕ) → mem 0 m ≡ true → d .hasSent ℓ m ≡ true
+  from-V0 ℓ m h = absurd (true≢false (sym h ∙ set-laws .empty m))
+
+  keeps : (r m : ℕ) → r < 7 → d .hasSent (d .from r) m ≡ true → d .hasSent (d .to r) m ≡ true
+  unfolding ruleAt
+  keeps zero m l h = h
+  keeps (suc zero) m l h = from-V0 2 m h
+  keeps (suc (suc zero)) m l h = from-V0 3 m h
+  keeps (suc (suc (suc zero))) m l h = from-V0 2 m h
+  keeps (suc (suc (suc (suc zero)))) m l h = h
+  keeps (suc (suc (suc (suc (suc zero))))) m l h = h
+  keeps (suc (suc (suc (suc (suc (suc zero)))))) m l h = h
+  keeps (suc (suc (suc (suc (suc (suc (suc r))))))) m l h = absurd (omega arith)
+
+  kept : Kept d
+  kept = record { few = omega arith; keeps = λ r m l _. keeps r m l }
+
+  -- ---- the invariant, of a configuration
+  record Still (σ : Conf (column k C f .Coll)) : Type 0 where
+    states : (p : ℕ) → p < C → σ .pc p ≡ 0
+    sents : (m : ℕ) → m < d .types → σ .sent m ≡ column k C f .init
+    sound : Sound k d σ
+
+  -- of words
+  record Stays (w : List ℕ) : Type 0 where
+    long : length w ≡ size C (d .types) (wide k)
+    shows : Still (view k d w)
+
+  -- ---- at the start, and what it comes to
+  start-stays : (starts : List ℕ) → length starts ≡ C → ((p : ℕ) → p < C → getD starts p 0 ≡ 0) → Stays (start (d .types) (wide k) starts)
+  unfolding state
+  start-stays starts l z = record {
+    long = length-start C (d .types) (wide k) starts l;
+    shows = record {
+      states = λ p h. start-low C (d .types) (wide k) starts l p h ∙ z p h;
+      sents = λ m h. shown-init k C f _ (sent-start C (d .types) (wide k) starts l m);
+      sound = sound-start d starts l (λ p m hp hm. ap (λ (ℓ : ℕ). d .hasSent ℓ m) (z p hp) ∙ set-laws .empty m) k;
+    };
+  }
+
+  quiet : (w : List ℕ) → Stays w → Quiet k d w
+  quiet w S =
+      let X = S .shows in
+      record {
+        states = X .states;
+        sents = X .sents;
+        sent-words = λ m h. shown-inj k C f 0 _ (X .sents m h ∙ sym (shown-init k C f 0 refl));
+        counts = λ p m hp hm. few-heard k C f _ (subst (Within k C f (rcvdOf k d w p m)) (X .sents m hm) (X .sound .within p m hp hm));
+      }
+
+  -- ---- admitted n, t, f
+  module _ (A : Admits echoTable C f t) where
+    -- of the rules that leave V0 only rule 0 can be met by f echoes
+    rule-zero : (r c : ℕ) → r < 7 → 0 ≡ d .from r → d .met r 0 c ≡ true → c ≤ f → r ≡ 0
+    unfolding ruleAt
+    rule-zero zero c l e h b = refl
+    rule-zero (suc zero) c l e h b = absurd (omega (arith, one-asks (C + f) t c h, A .faulty))
+    rule-zero (suc (suc zero)) c l e h b = absurd (omega (arith, two-asks (C + f) t c h, A .faulty, A .enough))
+    rule-zero (suc (suc (suc zero))) c l e h b = absurd (omega (arith, e))
+    rule-zero (suc (suc (suc (suc zero)))) c l e h b = absurd (omega (arith, e))
+    rule-zero (suc (suc (suc (suc (suc zero))))) c l e h b = absurd (omega (arith, e))
+    rule-zero (suc (suc (suc (suc (suc (suc zero)))))) c l e h b = absurd (omega (arith, e))
+    rule-zero (suc (suc (suc (suc (suc (suc (suc r))))))) c l e h b = absurd (omega arith)
+
+    -- ---- a move
+    module _ (s : Step) (σ σ′ : Conf (column k C f .Coll)) (S : Still σ) (a : Moves d (columnOf k d) s σ σ′) where
+      few : column k C f .card (σ′ .rcvd (s .board) 0) ≤ f
+      few =
+          few-heard k C f (σ′ .rcvd (s .board) 0)
+          (subst (Within k C f (σ′ .rcvd (s .board) 0)) (S .sents 0 (omega arith)) (heard-within k d kept s σ σ′ a (S .sound) (s .board) 0 (a .board) (omega arith)))
+
+      by-zero : s .rule ≡ 0
+      by-zero = rule-zero (s .rule) _ (a .local .rule) (sym (S .states (s .board) (a .board)) ∙ a .local .leaves) (a .local .met 0 (omega arith)) few
+
+      to-V0 : σ′ .pc (s .board) ≡ 0
+      unfolding ruleAt
+      to-V0 = a .local .enters ∙ ap (d .to) by-zero
+
+      still-states : (p : ℕ) → p < C → σ′ .pc p ≡ 0
+      still-states p h = go (ℕ-discrete p (s .board))
+        where
+          go : Dec (p ≡ s .board) → σ′ .pc p ≡ 0
+          go (yes e) = ap (σ′ .pc) e ∙ to-V0
+          go (no o) = a .others-pc p h o ∙ S .states p h
+
+      nothing-new : (m : ℕ) → newly d (σ .pc (s .board)) (σ′ .pc (s .board)) m ≡ false
+      nothing-new m = rw (to-V0, set-laws .empty m)
+
+      still : Still σ′
+      still = record {
+        states = still-states;
+        sents = λ m h. a .keeps m h (nothing-new m) ∙ S .sents m h;
+        sound = still-sound k d kept s σ σ′ a (S .sound);
+      }
+
+    -- ---- a step, and a run
+    step-rule : (w : List ℕ) (s : Step) → Stays w → stepFault k d w s ≡ 0 → s .rule ≡ 0
+    step-rule w s S z = by-zero s (view k d w) (view k d (stepped k d w s)) (S .shows) (step-moves k d w s (S .long) z)
+
+    step-stays : (w : List ℕ) (s : Step) → Stays w → stepFault k d w s ≡ 0 → Stays (stepped k d w s)
+    step-stays w s S z = record {
+      long = length-stepped k d w s ∙ S .long;
+      shows = still s (view k d w) (view k d (stepped k d w s)) (S .shows) (step-moves k d w s (S .long) z);
+    }
+
+    run-stays : (ss : List Step) (w : List ℕ) → Stays w → Stays (run k d w ss .words)
+    unfolding run
+    run-stays [] w S = S
+    run-stays (s ∷ ss) w S = go (ℕ-discrete (stepFault k d w s) 0) (run-stays ss (stepped k d w s))
+      where
+        go : Dec (stepFault k d w s ≡ 0) → (Stays (stepped k d w s) → Stays (run k d (stepped k d w s) ss .words)) → Stays (run k d w (s ∷ ss) .words)
+        go (yes z) ih = subst⁻¹ Stays (ap (λ (r : Ran). r .words) (run-goes k d w s ss z)) (ih (step-stays w s S z))
+        go (no n) ih = subst⁻¹ Stays (ap (λ (r : Ran). r .words) (run-stops k d w s ss n)) S
+
+    -- ---- schedules
+    from-zeros : (ss : List Step) → Stays (run k d (fromV0 echoTable k C) ss .words)
+    from-zeros ss = run-stays ss (fromV0 echoTable k C) (start-stays (replicate C 0) (length-replicate C 0) (λ p h. getD-replicate C p 0 0 h))
+
+    never : (ss : List Step) → Never k d (fromV0 echoTable k C) ss
+    never ss = record {
+      reached = λ i. quiet _ (from-zeros (take i ss));
+      left = quiet _ (from-zeros ss);
+      waits = λ s z. step-rule _ s (from-zeros ss) z;
+    }
+
+-- ---- words past a configuration are not part of it
+module _ (k : ℕ) (d : Design) (u v : List ℕ) (l : length u ≡ size (d .boards) (d .types) (wide k)) where
+  same-at : (i : ℕ) → i < size (d .boards) (d .types) (wide k) → getD (u ++ v) i 0 ≡ getD u i 0
+  same-at i h = List·getD-append u v 0 i (rw l h)
+
+  same-sent : (m : ℕ) → m < d .types → sent (d .boards) (d .types) (wide k) (u ++ v) m ≡ sent (d .boards) (d .types) (wide k) u m
+  unfolding sent sentAt
+  same-sent m h = same-at _ (unfold size in omega arith)
+
+  same-rcvd : (p m : ℕ) → p < d .boards → m < d .types → rcvdOf k d (u ++ v) p m ≡ rcvdOf k d u p m
+  unfolding cell
+  same-rcvd p m hp hm = coll-same k (d .boards) (d .faulty) _ _ (λ e he. same-at (cellAt (d .boards) (d .types) (wide k) p m e) (unfold size sentAt in omega (arith, cell-below (d .boards) (d .types) (wide k) p m e hp hm he)))
+
+  quiet-past : Quiet k d u → Quiet k d (u ++ v)
+  unfolding state
+  quiet-past Q = record {
+    states = λ p h. same-at p (unfold size in omega arith) ∙ Q .states p h;
+    sents = λ m h. ap (shown k (d .boards) (d .faulty)) (same-sent m h) ∙ Q .sents m h;
+    sent-words = λ m h. same-sent m h ∙ Q .sent-words m h;
+    counts = λ p m hp hm. subst⁻¹ (λ (M : columnOf k d .Coll). columnOf k d .card M ≤ d .faulty) (same-rcvd p m hp hm) (Q .counts p m hp hm);
+  }
+
+-- ---- a bundle that starts in V0
+no-others : {x : ℕ} → Configures x → (x ≡ 0 → ⊥) → x ≤ 14 → ⊥
+no-others (whole z) n l = n z
+no-others (stopped a b) n l = omega arith
+
+not-thirty : Configures 30 → ⊥
+not-thirty (whole z) = omega arith
+not-thirty (stopped a b) = omega arith
+
+refused-no-step : (x y p r m q : ℕ) → First.Refused x y ≡ First.Step p r m q → ⊥
+refused-no-step x y p r m q e = let z : _≡_ {A = ℕ} 0 1 = cc in absurd (omega arith)
+
+module _ (b standing : List ℕ) (B : InV0 echoTable b standing) where
+  in-use : tableInUse b standing ≡ echoTable
+  in-use = go (B .uses)
+    where
+      go : Uses echoTable b standing → tableInUse b standing ≡ echoTable
+      go (beside z e) = sym (use-standing b standing refl z) ∙ e
+      go (front e) = sym (use-front b standing refl (λ z. let q : _≡_ {A = ℕ} 0 51 = ap length (ap (λ (x : ℕ). take x b) (sym z) ∙ e) in omega arith)) ∙ e
+
+  abbrev design : Design
+  design = designOf (sizesOf echoTable b) echoTable
+
+  abbrev left : List ℕ
+  left = ranWith echoTable b .words
+
+  module _ (z : readFault b standing .number ≡ 0) where
+    read : Read echoTable b
+    read = read-by b standing refl z (sym in-use)
+
+    admits : Admits echoTable (correctOf b) (fOf b) (tOf b)
+    admits = record { enough = omega (arith, read .admitted .enough, read .all); faulty = read .admitted .faulty }
+
+    left-stays : Stays (formOf b) (correctOf b) (fOf b) (tOf b) left
+    unfolding ranWith
+    left-stays =
+        run-stays (formOf b) (correctOf b) (fOf b) (tOf b) admits (scheduleOf b) _
+        (start-stays (formOf b) (correctOf b) (fOf b) (tOf b) (startsOf b) (read .parted .starts-long) (B .starts))
+
+    left-quiet : (v : List ℕ) → Quiet (formOf b) design (left ++ v)
+    left-quiet v = quiet-past (formOf b) design left v (left-stays .long) (quiet (formOf b) (correctOf b) (fOf b) (tOf b) left left-stays)
+
+    left-rule : (s : Step) → stepFault (formOf b) design left s ≡ 0 → s .rule ≡ 0
+    left-rule s = step-rule (formOf b) (correctOf b) (fOf b) (tOf b) admits left s left-stays
+
+  -- ---- `run`
+  module _ (words : List ℕ) (c : Configures (runAnswer b standing (length words) .refusal)) where
+    abbrev Claim : Type 0
+    Claim = Quiet (formOf b) (designIn b standing) (runWords b standing words)
+
+    answered : {a : Answer} → a ≡ runAnswer b standing (length words) → Configures (a .refusal)
+    answered e = subst⁻¹ (λ (a : Answer). Configures (a .refusal)) e c
+
+    runs : Claim
+    runs = go (ℕ-discrete (readFault b standing .number) 0)
+      where
+        long : readFault b standing .number ≡ 0 → Dec (length words < roomOf (sizesOf echoTable b)) → Claim
+        long z (yes l) = absurd (not-thirty (answered (enter-short b standing words refl z (sym in-use) refl refl l refl .answer)))
+        long z (no l) =
+            let E = enter-run b standing words refl z (sym in-use) refl refl (omega arith) refl refl in
+            subst⁻¹ (λ (x : List ℕ). Quiet (formOf b) (designOf (sizesOf x b) x) (runWords b standing words)) in-use
+            (subst (Quiet (formOf b) design) (E .words) (left-quiet z _))
+
+        go : Dec (readFault b standing .number ≡ 0) → Claim
+        go (no n) = absurd (no-others (answered (enter-refused b standing words refl n refl .answer)) n (read-within (tableInUse b standing) b .number))
+        go (yes z) = long z (decLt (length words) (roomOf (sizesOf echoTable b)))
+
+  -- ---- `first_step`
+  module _ (p r m q : ℕ) (h : firstAnswer b standing ≡ First.Step p r m q) where
+    after-run : readFault b standing .number ≡ 0 → answerOf (first (formOf b) design left) ≡ First.Step p r m q
+    unfolding afterRun
+    after-run z = if-passed (λ (a : First). a ≡ First.Step p r m q) _ _ _ (refused-no-step _ _ p r m q) (first-read b standing refl z (sym in-use) refl ∙ h) .1
+
+    named : readFault b standing .number ≡ 0 → (x : Found) → first (formOf b) design left ≡ x → answerOf x ≡ First.Step p r m q → r ≡ 0
+    named z none e g = let y : _≡_ {A = ℕ} 0 1 = cc in absurd (omega arith)
+    named z (found s) e g = let y : r ≡ s .rule = cc in y ∙ left-rule z s (first-possible (formOf b) design left .accepted s e)
+
+    firsts : r ≡ 0
+    firsts = go (ℕ-discrete (readFault b standing .number) 0)
+      where
+        go : Dec (readFault b standing .number ≡ 0) → r ≡ 0
+        go (yes z) = named z _ refl (after-run z)
+        go (no n) = absurd (refused-no-step _ _ p r m q (first-refused b standing refl n ∙ h))
+
+no-echo : NoEcho echoTable
+no-echo = record { never = never; runs = λ b standing words B. runs b standing B words; firsts = firsts }
+
+pub q5 : Q5
+q5 = record { holds = no-echo; table = refl; fails = one-enough }
