@@ -207,8 +207,8 @@ fn walk(dice: &mut Dice, bundle: &Bundle) -> Vec<Step> {
     steps
 }
 
-// A step with any of its four numbers out of range, or several.
-fn wild(dice: &mut Dice, bundle: &Bundle) -> Step {
+/// A step with any of its four numbers out of range, or several.
+pub fn wild(dice: &mut Dice, bundle: &Bundle) -> Step {
     let board = dice.below(bundle.correct() + 1) as u8;
     let rule = dice.below(bundle.table.rules.len() + 1) as u8;
     let (kind, source) = (dice.below(bundle.table.types + 1) as u8, dice.below(bundle.sources() + 1) as u8);

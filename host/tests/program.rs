@@ -483,6 +483,37 @@ fn a_standing_table_is_read_where_the_bundle_has_none() {
 }
 
 #[test]
+fn one_echo_from_nothing_is_enough_only_where_t_are_asked_for() {
+    let shown = "\
+message form, n = 4, t = 1, f = 1: boards 0 to 2 are correct, 3 is faulty
+after 0 steps: what each board has (from correct + faulty boards), and what was sent
+
+board  state  has type 0
+    0  0             0+0
+    1  0             0+0
+    2  0             0+0
+ sent                  0
+";
+    let told = "\
+refused 25 at step 0: a threshold is not met
+that step is board 0, rule 1, type 0, source 3
+";
+    says(&["run"], "one-echo.bundle", 1, shown, told);
+    let shown = "\
+message form, n = 4, t = 1, f = 1: boards 0 to 2 are correct, 3 is faulty
+after 1 step: what each board has (from correct + faulty boards), and what was sent
+
+board  state  has type 0
+    0  2             0+1
+    1  0             0+0
+    2  0             0+0
+ sent                  1
+";
+    let table = example("asks-t.table");
+    says(&["run", "--standing", table.to_str().expect("a name")], "one-echo.bundle", 0, shown, "");
+}
+
+#[test]
 fn help_is_there() {
     for words in [vec!["--help"], vec!["help"], vec!["run", "-h"]] {
         let got = asked(&words);
