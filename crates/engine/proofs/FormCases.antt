@@ -1,14 +1,17 @@
 -- A fact about the form's number, from the tests `form == 0` and `form == 1`.
 use mathlib.Core.Path.{_≡_, refl}
 use mathlib.Core.Bool.{_&&_, _||_, or-false}
-use Prim.Native.Nat.{ℕ, zero, suc, _+_, _≤_, _<_}
+use Prim.Native.Nat.{ℕ, zero, suc, _+_, _-_, _*_, _≤_, _<_}
+use native.Mathlib.Nat.{mul-le-mul}
 use native.Mathlib.Omega.{arith}
 use lib.Dec.{eqb}
-use borrow.Author.Tests.{le-ltb, ne-eqb}
+use borrow.Author.Tests.{lt-ltb, le-ltb, ne-eqb}
+use Rattle.senders.specs.Tally.{least}
 use Rattle.fault.specs.Tests.{_below_}
 use Rattle.fault.specs.Fault.{_if_else_}
 use Rattle.paper.specs.Paper.{column}
-use Rattle.paper.specs.Form.{bump}
+use Rattle.paper.specs.Form.{wide, slot, bump, two, coll, shown}
+use Rattle.paper.proofs.FormLaws.{wide-some}
 
 pub sets : (P : ℕ → Type 0) → P 0 → (k : ℕ) → k ≡ 0 → P k
 sets P h zero e = h
@@ -18,11 +21,6 @@ pub tags : (P : ℕ → Type 0) → P 1 → (k : ℕ) → k ≡ 1 → P k
 tags P h zero e = absurd (omega arith)
 tags P h (suc zero) e = h
 tags P h (suc (suc j)) e = absurd (omega arith)
-
-pub plains : (P : ℕ → Type 0) → ((j : ℕ) → P (suc (suc j))) → (k : ℕ) → (k ≡ 0 → ⊥) → (k ≡ 1 → ⊥) → P k
-plains P h zero n o = absurd (n refl)
-plains P h (suc zero) n o = absurd (o refl)
-plains P h (suc (suc j)) n o = h j
 
 -- the forms that count
 pub counts : (P : ℕ → Type 0) → ((j : ℕ) → P (suc j)) → (k : ℕ) → (k ≡ 0 → ⊥) → P k
@@ -46,9 +44,77 @@ source-few zero C f q h l = omega arith
 source-few (suc zero) C f q h l = omega arith
 source-few (suc (suc k)) C f q h l = omega arith
 
--- in transit by the tag: its count against its limit
-pub by-tag : {x y : ℕ} (q v w out f : ℕ) → x ≡ (v if eqb q 0 else w) → y ≡ (out if eqb q 0 else f) → (q below 2 && x below y) ≡ (eqb q 0 && v below out || eqb q 1 && w below f)
-unfolding _if_else_
-by-tag zero v w out f e g = rw (e, g, or-false)
-by-tag (suc zero) v w out f e g = rw (e, g)
-by-tag (suc (suc q)) v w out f e g = rw (le-ltb (suc (suc q)) 2 (omega arith), ne-eqb (suc (suc q)) 0 (omega arith), ne-eqb (suc (suc q)) 1 (omega arith))
+-- ---- the forms that count, by how many words a cell has
+pub slot-last : (k : ℕ) → wide k - 1 ≡ slot k 1
+unfolding wide slot
+slot-last zero = refl
+slot-last (suc zero) = refl
+slot-last (suc (suc k)) = refl
+
+pub slot-is : (k q : ℕ) → (k ≡ 0 → ⊥) → q < wide k → q ≡ slot k q
+unfolding wide slot
+slot-is zero q n l = absurd (n refl)
+slot-is (suc zero) q n l = refl
+slot-is (suc (suc k)) q n l = omega arith
+
+pub sources-are : (k C f : ℕ) → (k ≡ 0 → ⊥) → wide k ≡ column k C f .sources
+unfolding wide
+sources-are zero C f n = absurd (n refl)
+sources-are (suc zero) C f n = refl
+sources-are (suc (suc k)) C f n = refl
+
+pub source-slot : (k C f q : ℕ) → (k ≡ 0 → ⊥) → q < column k C f .sources → q < wide k
+source-slot k C f q n l = omega (arith, l, sources-are k C f n)
+
+pub card-is : (k C f v w : ℕ) → (k ≡ 0 → ⊥) → v + (wide k - 1) * w ≡ column k C f .card (coll k C f (two v w))
+unfolding wide coll
+card-is zero C f v w n = absurd (n refl)
+card-is (suc zero) C f v w n = omega arith
+card-is (suc (suc k)) C f v w n = omega arith
+
+-- the last word counts once at most
+pub last-once : {x : ℕ} (k w m : ℕ) → x ≡ wide k → w ≤ m → (x - 1) * w ≤ m
+last-once {x} k w m e h = let l : x - 1 ≤ 1 = omega (arith, e, wide-some k .1) in omega (arith, mul-le-mul {n₂ = 1} {m₂ = m} l h)
+
+-- the first count's limit
+abbrev pub limitOf : ℕ → ℕ → ℕ → ℕ
+limitOf x f out = out + f if eqb x 1 else out
+
+-- in transit: a count against its limit
+pub transit-is : (k C f q v w out : ℕ) → (k ≡ 0 → ⊥)
+    → (q below wide k && (v if eqb q 0 else w) below (limitOf (wide k) f out if eqb q 0 else f)) ≡ column k C f .inTransit q (coll k C f (two v w)) (shown k C f out)
+unfolding wide coll shown _if_else_
+transit-is zero C f q v w out n = absurd (n refl)
+transit-is (suc zero) C f zero v w out n = rw or-false
+transit-is (suc zero) C f (suc zero) v w out n = refl
+transit-is (suc zero) C f (suc (suc q)) v w out n = rw (le-ltb (suc (suc q)) 2 (omega arith), ne-eqb (suc (suc q)) 0 (omega arith), ne-eqb (suc (suc q)) 1 (omega arith))
+transit-is (suc (suc k)) C f zero v w out n = refl
+transit-is (suc (suc k)) C f (suc q) v w out n = rw (le-ltb (suc q) 1 (omega arith), ne-eqb (suc q) 0 (omega arith))
+
+-- from what the code has in hand
+pub transit-by : {x most g y : ℕ} (k C f q v w out : ℕ) → x ≡ wide k → (k ≡ 0 → ⊥) → most ≡ limitOf x f out → g ≡ (v if eqb q 0 else w) → y ≡ (most if eqb q 0 else f)
+    → (q below x && g below y) ≡ column k C f .inTransit q (coll k C f (two v w)) (shown k C f out)
+transit-by k C f q v w out e n h a b = rw (a, b, h, e) (transit-is k C f q v w out n)
+
+-- the lowest source in transit
+module _ (C f v w out : ℕ) where
+  abbrev lowest : ℕ → ℕ
+  lowest k = least (column k C f .sources) (λ q. column k C f .inTransit q (coll k C f (two v w)) (shown k C f out))
+
+  pub first-zero : (k : ℕ) → (k ≡ 0 → ⊥) → v < limitOf (wide k) f out → 0 ≡ lowest k
+  unfolding wide coll shown least _if_else_
+  first-zero zero n l = absurd (n refl)
+  first-zero (suc zero) n l = rw (lt-ltb v out l)
+  first-zero (suc (suc k)) n l = rw (lt-ltb v (out + f) l)
+
+  pub first-one : (k : ℕ) → (k ≡ 0 → ⊥) → limitOf (wide k) f out ≤ v → w < f → 1 ≡ lowest k
+  unfolding wide coll shown least _if_else_
+  first-one zero n l h = absurd (n refl)
+  first-one (suc zero) n l h = rw (le-ltb v out l, lt-ltb w f h)
+  first-one (suc (suc k)) n l h = rw (le-ltb v (out + f) l)
+
+  pub first-none : (k : ℕ) → (k ≡ 0 → ⊥) → limitOf (wide k) f out ≤ v → f ≤ w → wide k ≡ lowest k
+  unfolding wide coll shown least _if_else_
+  first-none zero n l h = absurd (n refl)
+  first-none (suc zero) n l h = rw (le-ltb v out l, le-ltb w f h)
+  first-none (suc (suc k)) n l h = rw (le-ltb v (out + f) l)

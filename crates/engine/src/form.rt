@@ -1,9 +1,10 @@
 // The form, on numbers: what the words of a cell and a sent word come to. Nothing above looks at the form's number.
 ghost use mathlib.Core.Path.{_≡_};
 ghost use Prim.Native.Nat.{_+_, _≤_, _<_};
+ghost use lib.Dec.{eqb};
 ghost use Rattle.senders.specs.Tally.{least};
 ghost use Rattle.fault.specs.Fault.{_if_else_};
-ghost use Rattle.paper.specs.Paper.{passing, counting, plain, column};
+ghost use Rattle.paper.specs.Paper.{passing, column};
 ghost use Rattle.paper.specs.Form.{two, coll, shown};
 ghost use Rattle.paper.specs.Form as forms;
 
@@ -16,9 +17,10 @@ pub fn wide(form: usize) -> usize
 
 // The word of a cell that a message from q changes.
 pub fn slot(form: usize, q: usize) -> usize
+    requires { ⌜ ((form ≡ 0 → ⊥) → q < forms.wide form) ⌝ }
     ensures { λ r. ⌜ (r ≡ forms.slot form q) × (r ≤ q) ⌝ }
 {
-    if form == 1 { q } else { 0 }
+    if form == 0 { 0 } else { q }
 }
 
 // A word after a message from q.
@@ -34,48 +36,48 @@ pub fn bump(form: usize, q: usize, word: u64) -> u64
     }
 }
 
-// How many messages there are: 0 .. n-1 by their senders, the two tags, or one.
-pub fn sources(form: usize, c: usize, f: usize) -> usize
-    requires { ⌜ c + f ≤ 64 ⌝ }
+// ---- the forms that count differ in how many words a cell has; with that number at hand they go one way
+// How many messages there are: 0 .. n-1 by their senders, or as many as a cell has counts.
+pub fn sources(form: usize, wide: usize, c: usize, f: usize) -> usize
+    requires { ⌜ (c + f ≤ 64) × (wide ≡ forms.wide form) ⌝ }
     ensures { λ r. ⌜ (r ≡ column form c f .sources) × (r ≤ 64) ⌝ }
 {
-    if form == 0 {
-        return c + f;
-    }
-    if form == 1 {
-        return 2;
-    }
-    1
+    if form == 0 { c + f } else { wide }
 }
 
-// How many messages the two words of a cell hold; only in counting form are they not the same word.
-pub fn card(form: usize, c: usize, f: usize, v: u64, w: u64) -> u64
-    requires { ⌜ c + f ≤ 64 ⌝ }
+// How many messages the first and the last word of a cell hold; where they are the same, it counts once.
+pub fn card(form: usize, wide: usize, c: usize, f: usize, v: u64, w: u64) -> u64
+    requires { ⌜ (c + f ≤ 64) × (wide ≡ forms.wide form) ⌝ }
     requires { ⌜ ((form ≡ 0 → ⊥) → (v ≤ 1000000) × (w ≤ 1000000)) ⌝ }
     ensures { λ r. ⌜ (r ≡ column form c f .card (coll form c f (two v w))) × (r ≤ 2000000) ⌝ }
 {
     if form == 0 {
-        return senders::correct_count(v, (c + f) as u64);
+        senders::correct_count(v, (c + f) as u64)
+    } else {
+        v + (wide - 1) as u64 * w
     }
-    if form == 1 {
-        return v + w;
-    }
-    v
 }
 
-// Is a message from q in transit, by the two words of the receiver's cell and the sent word?
-pub fn in_transit(form: usize, c: usize, f: usize, q: usize, v: u64, w: u64, out: u64) -> bool
-    requires { ⌜ (q < 64) × (c + f ≤ 64) ⌝ }
+// Is a message from q in transit, by the first and the last word of the receiver's cell and the sent word?
+pub fn in_transit(
+    form: usize,
+    wide: usize,
+    c: usize,
+    f: usize,
+    q: usize,
+    v: u64,
+    w: u64,
+    out: u64,
+) -> bool
+    requires { ⌜ (q < 64) × (c + f ≤ 64) × (wide ≡ forms.wide form) ⌝ }
     requires { ⌜ ((form ≡ 0 → ⊥) → out ≤ 1000000) ⌝ }
     ensures { λ r. ⌜ r ≡ column form c f .inTransit q (coll form c f (two v w)) (shown form c f out) ⌝ }
 {
     if form == 0 {
-        return set_in_transit(c, f, q, v, out);
+        set_in_transit(c, f, q, v, out)
+    } else {
+        count_in_transit(form, wide, c, f, q, v, w, out)
     }
-    if form == 1 {
-        return count_in_transit(c, f, q, v, w, out);
-    }
-    plain_in_transit(c, f, q, v, out)
 }
 
 fn set_in_transit(c: usize, f: usize, q: usize, got: u64, out: u64) -> bool
@@ -85,21 +87,32 @@ fn set_in_transit(c: usize, f: usize, q: usize, got: u64, out: u64) -> bool
     senders::in_transit(out, got, c as u64, q as u64)
 }
 
-fn count_in_transit(c: usize, f: usize, q: usize, v: u64, w: u64, out: u64) -> bool
-    ensures { λ r. ⌜ r ≡ counting c f .inTransit q (coll 1 c f (two v w)) (shown 1 c f out) ⌝ }
+fn count_in_transit(
+    form: usize,
+    wide: usize,
+    c: usize,
+    f: usize,
+    q: usize,
+    v: u64,
+    w: u64,
+    out: u64,
+) -> bool
+    requires { ⌜ (f ≤ 64) × (wide ≡ forms.wide form) × (form ≡ 0 → ⊥) × (out ≤ 1000000) ⌝ }
+    ensures { λ r. ⌜ r ≡ column form c f .inTransit q (coll form c f (two v w)) (shown form c f out) ⌝ }
 {
-    (q < 2) & (choose(q == 0, v, w) < choose(q == 0, out, f as u64))
+    let most = limit(wide, f, out);
+    (q < wide) & (choose(q == 0, v, w) < choose(q == 0, most, f as u64))
 }
 
-fn plain_in_transit(c: usize, f: usize, q: usize, v: u64, out: u64) -> bool
+// A first count below this has a message in transit: what was sent, and where it is the only count, one from each faulty board.
+fn limit(wide: usize, f: usize, out: u64) -> u64
     requires { ⌜ (f ≤ 64) × (out ≤ 1000000) ⌝ }
-    ensures { λ r. ⌜ r ≡ plain c f .inTransit q v out ⌝ }
+    ensures { λ r. ⌜ r ≡ (out + f if eqb wide 1 else out) ⌝ }
 {
-    (q == 0) & (v < plain_limit(f, out))
+    choose(wide == 1, with_faulty(f, out), out)
 }
 
-// A plain count below this has a message in transit: what was sent, and one from each faulty board.
-fn plain_limit(f: usize, out: u64) -> u64
+fn with_faulty(f: usize, out: u64) -> u64
     requires { ⌜ (f ≤ 64) × (out ≤ 1000000) ⌝ }
     ensures { λ r. ⌜ r ≡ out + f ⌝ }
 {
@@ -114,18 +127,16 @@ fn choose(test: bool, x: u64, y: u64) -> u64
 }
 
 // The lowest source of a message in transit, by the same words; as many as there are sources where there is none.
-pub fn first_source(form: usize, c: usize, f: usize, v: u64, w: u64, out: u64) -> usize
-    requires { ⌜ c + f ≤ 64 ⌝ }
+pub fn first_source(form: usize, wide: usize, c: usize, f: usize, v: u64, w: u64, out: u64) -> usize
+    requires { ⌜ (c + f ≤ 64) × (wide ≡ forms.wide form) ⌝ }
     requires { ⌜ ((form ≡ 0 → ⊥) → out ≤ 1000000) ⌝ }
     ensures { λ r. ⌜ r ≡ least (column form c f .sources) (λ q. column form c f .inTransit q (coll form c f (two v w)) (shown form c f out)) ⌝ }
 {
     if form == 0 {
-        return first_sender(c, f, v, out);
+        first_sender(c, f, v, out)
+    } else {
+        first_count(form, wide, c, f, v, w, out)
     }
-    if form == 1 {
-        return first_tag(c, f, v, w, out);
-    }
-    first_plain(c, f, v, out)
 }
 
 fn first_sender(c: usize, f: usize, got: u64, out: u64) -> usize
@@ -135,24 +146,16 @@ fn first_sender(c: usize, f: usize, got: u64, out: u64) -> usize
     senders::lowest_in_transit(out, got, c as u64, (c + f) as u64) as usize
 }
 
-fn first_tag(c: usize, f: usize, v: u64, w: u64, out: u64) -> usize
-    ensures { λ r. ⌜ r ≡ least 2 (λ q. counting c f .inTransit q (coll 1 c f (two v w)) (shown 1 c f out)) ⌝ }
+// Of one count, 1 is as many as there are sources: the second test then makes no difference.
+fn first_count(form: usize, wide: usize, c: usize, f: usize, v: u64, w: u64, out: u64) -> usize
+    requires { ⌜ (f ≤ 64) × (wide ≡ forms.wide form) × (form ≡ 0 → ⊥) × (out ≤ 1000000) ⌝ }
+    ensures { λ r. ⌜ r ≡ least (column form c f .sources) (λ q. column form c f .inTransit q (coll form c f (two v w)) (shown form c f out)) ⌝ }
 {
-    if v < out {
+    if v < limit(wide, f, out) {
         return 0;
     }
     if w < f as u64 {
         return 1;
     }
-    2
-}
-
-fn first_plain(c: usize, f: usize, v: u64, out: u64) -> usize
-    requires { ⌜ (f ≤ 64) × (out ≤ 1000000) ⌝ }
-    ensures { λ r. ⌜ r ≡ least 1 (λ q. plain c f .inTransit q v out) ⌝ }
-{
-    if v < plain_limit(f, out) {
-        return 0;
-    }
-    1
+    wide
 }

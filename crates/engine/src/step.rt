@@ -126,7 +126,7 @@ fn malformed(s: Sizes, m: usize, q: usize) -> bool
     requires { ⌜ Bounded s ⌝ }
     ensures { λ b. ⌜ b ≡ malformedIn s m q ⌝ }
 {
-    let n = form::sources(s.form, s.correct, s.faulty);
+    let n = form::sources(s.form, s.wide, s.correct, s.faulty);
     !silent(m, q) & ((s.types <= m) | (n <= q))
 }
 

@@ -36,14 +36,22 @@ pub fn cell_at(s: Sizes, p: usize, m: usize) -> usize
     s.correct + p * s.row + m * s.wide
 }
 
+// The last word of the cell that begins at i, which is the first where a cell has one.
+fn last_of(s: Sizes, i: usize) -> usize
+    requires { ⌜ (Bounded s) × (i ≤ 576) ⌝ }
+    ensures { λ r. ⌜ (r ≡ i + forms.slot (s .form) 1) × (r < i + forms.wide (s .form)) × (r ≤ 577) ⌝ }
+{
+    i + (s.wide - 1)
+}
+
 // How many messages of type m board p has received.
 pub fn count(s: Sizes, w: &[u64], p: usize, m: usize) -> u64
     requires { ⌜ (Bounded s) × (At s p m) × (Holds s 1000000 (now w)) ⌝ }
     ensures { λ r. ⌜ (r ≡ countIn s (now (w .entry)) p m) × (r ≤ 2000000) ⌝ }
 {
     let i = cell_at(s, p, m);
-    let j = i + form::slot(s.form, 1);
-    form::card(s.form, s.correct, s.faulty, w[i], w[j])
+    let j = last_of(s, i);
+    form::card(s.form, s.wide, s.correct, s.faulty, w[i], w[j])
 }
 
 // Is the message of type m from q in transit to board p?
@@ -52,9 +60,9 @@ pub fn in_transit(s: Sizes, w: &[u64], p: usize, m: usize, q: usize) -> bool
     ensures { λ r. ⌜ r ≡ transitIn s (now (w .entry)) p m q ⌝ }
 {
     let i = cell_at(s, p, m);
-    let j = i + form::slot(s.form, 1);
+    let j = last_of(s, i);
     let k = sent_at(s, m);
-    form::in_transit(s.form, s.correct, s.faulty, q, w[i], w[j], w[k])
+    form::in_transit(s.form, s.wide, s.correct, s.faulty, q, w[i], w[j], w[k])
 }
 
 // Board p enters a state; the word is written only where that changes it.
@@ -74,9 +82,9 @@ pub fn first_source(s: Sizes, w: &[u64], p: usize, m: usize) -> usize
     ensures { λ r. ⌜ r ≡ least (columnIn s .sources) (transitIn s (now (w .entry)) p m) ⌝ }
 {
     let i = cell_at(s, p, m);
-    let j = i + form::slot(s.form, 1);
+    let j = last_of(s, i);
     let k = sent_at(s, m);
-    form::first_source(s.form, s.correct, s.faulty, w[i], w[j], w[k])
+    form::first_source(s.form, s.wide, s.correct, s.faulty, w[i], w[j], w[k])
 }
 
 // Board p receives the message of type m from q.

@@ -29,12 +29,6 @@ wide-some zero = (omega arith, omega arith)
 wide-some (suc zero) = (omega arith, omega arith)
 wide-some (suc (suc k)) = (omega arith, omega arith)
 
-pub slot-one : (k : ℕ) → slot k 1 < wide k
-unfolding slot wide
-slot-one zero = omega arith
-slot-one (suc zero) = omega arith
-slot-one (suc (suc k)) = omega arith
-
 module _ (k C f : ℕ) where
   pub slot-below : (q : ℕ) → q < column k C f .sources → slot k q < wide k
   unfolding slot wide

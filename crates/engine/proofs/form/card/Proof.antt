@@ -1,10 +1,11 @@
-use mathlib.Core.Path.{_≡_, refl}
-use Prim.Native.Nat.{ℕ, _+_, _≤_}
+use mathlib.Core.Path.{_≡_, ap, _∙_}
+use Prim.Native.Nat.{ℕ, _+_, _-_, _*_, _≤_}
 use native.Mathlib.Omega.{arith}
 use borrow.Author.Needs.{needs}
-use Rattle.engine.proofs.FormCases.{sets, tags, plains}
+use Rattle.engine.proofs.FormCases.{sets, card-is, last-once}
 use Rattle.paper.specs.Form.{two, coll}
 use Rattle.paper.specs.Paper.{column}
+use Rattle.paper.proofs.FormLaws.{wide-some}
 use Rattle.engine.proofs.form.card.Statement.{statement}
 use Rattle.engine.proofs.form.card.Tie as tie
 
@@ -15,12 +16,16 @@ card-spec =
     (tie.spec
     (λ c. search needs)
     (λ c κs. search needs)
+    (λ c. let st = c .before in
+    omega (arith, st .pre .0 .1, wide-some (st .args .form) .0))
+    (λ c. let st = c .before in
+    omega (arith, last-once (st .args .form) (st .args .w) 1000000 (st .pre .0 .1) (st .pre .1 (c .if1 .left) .1)))
+    (λ c. let st = c .before in
+    let h = st .pre .1 (c .if1 .left) in
+    omega (arith, h .0, last-once (st .args .form) (st .args .w) 1000000 (st .pre .0 .1) (h .1)))
     (λ c. let a = c .before .before .args in
-    sets (λ (k : ℕ). (c .correct-count .result ≡ column k (a .c) (a .f) .card (coll k (a .c) (a .f) (two (a .v) (a .w)))) × (c .correct-count .result ≤ 2000000)) (c .correct-count .ensures .0, omega arith) _ (c .before .if1 .taken))
-    (λ c. omega (arith, c .before .before .pre .1 (c .before .if1 .left)))
-    (λ c. let st = c .before .before in
+    sets (λ (k : ℕ). (c .correct-count .result ≡ column k (a .c) (a .f) .card (coll k (a .c) (a .f) (two (a .v) (a .w)))) × (c .correct-count .result ≤ 2000000)) (c .correct-count .ensures .0, omega (arith, c .correct-count .ensures .1)) _ (c .before .if1 .taken))
+    (λ c. let st = c .before in
     let a = st .args in
-    tags (λ (k : ℕ). (a .v + a .w ≡ column k (a .c) (a .f) .card (coll k (a .c) (a .f) (two (a .v) (a .w)))) × (a .v + a .w ≤ 2000000)) (refl, omega (arith, st .pre .1 (c .before .if1 .left))) _ (c .if2 .taken))
-    (λ c. let st = c .before .before in
-    let a = st .args in
-    plains (λ (k : ℕ). (a .v ≡ column k (a .c) (a .f) .card (coll k (a .c) (a .f) (two (a .v) (a .w)))) × (a .v ≤ 2000000)) (λ j. (refl, omega (arith, st .pre .1 (c .before .if1 .left)))) _ (c .before .if1 .left) (c .if2 .left)))
+    let h = st .pre .1 (c .if1 .left) in
+    (ap (λ (x : ℕ). a .v + (x - 1) * a .w) (st .pre .0 .1) ∙ card-is (a .form) (a .c) (a .f) (a .v) (a .w) (c .if1 .left), omega (arith, h .0, last-once (a .form) (a .w) 1000000 (st .pre .0 .1) (h .1)))))

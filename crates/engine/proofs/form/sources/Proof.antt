@@ -1,9 +1,10 @@
-use mathlib.Core.Path.{_≡_, refl}
+use mathlib.Core.Path.{_≡_, refl, _∙_}
 use Prim.Native.Nat.{ℕ, _+_, _≤_}
 use native.Mathlib.Omega.{arith}
 use borrow.Author.Needs.{needs}
-use Rattle.engine.proofs.FormCases.{sets, tags, plains}
+use Rattle.engine.proofs.FormCases.{sets, sources-are}
 use Rattle.paper.specs.Paper.{column}
+use Rattle.paper.proofs.FormLaws.{wide-some}
 use Rattle.engine.proofs.form.sources.Statement.{statement}
 use Rattle.engine.proofs.form.sources.Tie as tie
 
@@ -13,8 +14,7 @@ sources-spec =
     (tie.spec
     (λ c. search needs)
     (λ c. let a = c .before .args in
-    sets (λ (k : ℕ). (a .c + a .f ≡ column k (a .c) (a .f) .sources) × (a .c + a .f ≤ 64)) (refl, omega arith) _ (c .if1 .taken))
-    (λ c. let a = c .before .before .args in
-    tags (λ (k : ℕ). (2 ≡ column k (a .c) (a .f) .sources) × (2 ≤ 64)) (refl, omega arith) _ (c .if2 .taken))
-    (λ c. let a = c .before .before .args in
-    plains (λ (k : ℕ). (1 ≡ column k (a .c) (a .f) .sources) × (1 ≤ 64)) (λ j. (refl, omega arith)) _ (c .before .if1 .left) (c .if2 .left)))
+    sets (λ (k : ℕ). (a .c + a .f ≡ column k (a .c) (a .f) .sources) × (a .c + a .f ≤ 64)) (refl, omega (arith, c .before .pre .0)) _ (c .if1 .taken))
+    (λ c. let st = c .before in
+    let a = st .args in
+    (st .pre .1 ∙ sources-are (a .form) (a .c) (a .f) (c .if1 .left), omega (arith, st .pre .1, wide-some (a .form) .1))))

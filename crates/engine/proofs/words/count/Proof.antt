@@ -1,10 +1,9 @@
 use mathlib.Core.Path.{ap, _∙_}
-use Prim.Native.Nat.{ℕ, _+_}
 use native.Mathlib.Omega.{arith}
 use borrow.Author.Needs.{needs}
 use Rattle.engine.proofs.PlaceLaws.{coll-words}
 use Rattle.engine.specs.Words.{columnIn}
-use Rattle.paper.proofs.FormLaws.{wide-some, slot-one}
+use Rattle.paper.proofs.FormLaws.{wide-some}
 use Rattle.engine.proofs.words.count.Statement.{statement}
 use Rattle.engine.proofs.words.count.Tie as tie
 
@@ -15,15 +14,14 @@ count-spec =
     (λ c κs. search needs)
     (λ c κs. search needs)
     (λ c. search needs)
-    (λ c. search needs)
     (λ c. let st = c .before .before .before .before in
     let a = st .args in
     omega (arith, st .pre .2 .fits, wide-some (a .s .form) .0, c .before .before .cell-at .ensures .1))
     (λ c. search needs)
     (λ c. let st = c .before .before .before .before .before in
     let a = st .args in
-    omega (arith, st .pre .2 .fits, c .before .before .slot .ensures .0, slot-one (a .s .form), c .before .before .before .cell-at .ensures .1))
+    omega (arith, st .pre .2 .fits, c .before .before .last-of .ensures .1, c .before .before .before .cell-at .ensures .1))
     (λ c κs. let st = c .before .before .before .before .before in
-    (st .pre .0 .boards, λ ne. (st .pre .2 .small ne _, st .pre .2 .small ne _)))
+    ((st .pre .0 .boards, st .pre .0 .wide), λ ne. (st .pre .2 .small ne _, st .pre .2 .small ne _)))
     (λ c. let a = c .before .before .before .before .before .before .args in
-    (c .card .ensures .0 ∙ ap (columnIn (a .s) .card) (coll-words (a .s .form) (a .s .correct) (a .s .faulty) (a .s .types) (a .p) (a .m) (a .w .now) (c .before .before .before .before .cell-at .ensures .0) (ap (λ (x : ℕ). c .before .before .before .before .cell-at .result + x) (c .before .before .before .slot .ensures .0))), c .card .ensures .1)))
+    (c .card .ensures .0 ∙ ap (columnIn (a .s) .card) (coll-words (a .s .form) (a .s .correct) (a .s .faulty) (a .s .types) (a .p) (a .m) (a .w .now) (c .before .before .before .before .cell-at .ensures .0) (c .before .before .before .last-of .ensures .0)), c .card .ensures .1)))

@@ -1,6 +1,6 @@
 use native.Mathlib.Omega.{arith}
 use borrow.Author.Needs.{needs}
-use Rattle.engine.proofs.FormCases.{source-few}
+use Rattle.engine.proofs.FormCases.{source-few, source-slot}
 use Rattle.engine.proofs.PlaceLaws.{cell-next}
 use Rattle.paper.proofs.FormLaws.{slot-below}
 use Rattle.paper.specs.Form.{wide, slot}
@@ -14,7 +14,9 @@ hear-spec =
     tie.close
     (tie.spec
     (λ c κs. search needs)
-    (λ c κs. search needs)
+    (λ c κs. let st = c .before .before in
+    let a = st .args in
+    λ n. source-slot (a .s .form) (a .s .correct) (a .s .faulty) (a .q) n (st .pre .2 .below))
     (λ c. let st = c .before .before .before in
     let a = st .args in
     omega (arith, c .before .cell-at .ensures .2, c .slot .ensures .1, source-few (a .s .form) (a .s .correct) (a .s .faulty) (a .q) (st .pre .0 .boards) (st .pre .2 .below)))
