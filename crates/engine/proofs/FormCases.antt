@@ -1,12 +1,16 @@
 -- A fact about the form's number, from the tests `form == 0` and `form == 1`.
 use mathlib.Core.Path.{_≡_, refl}
 use mathlib.Core.Bool.{_&&_, _||_, or-false}
+use mathlib.Core.List.{List}
 use Prim.Native.Nat.{ℕ, zero, suc, _+_, _-_, _*_, _≤_, _<_}
 use native.Mathlib.Nat.{mul-le-mul}
+use native.Mathlib.Numerals.{add-one}
 use native.Mathlib.Omega.{arith}
 use lib.Dec.{eqb}
+use lib.ListN.{getD, set}
 use borrow.Author.Tests.{lt-ltb, le-ltb, ne-eqb}
 use Rattle.senders.specs.Tally.{least}
+use Rattle.senders.specs.Set.{insert}
 use Rattle.fault.specs.Tests.{_below_}
 use Rattle.fault.specs.Fault.{_if_else_}
 use Rattle.paper.specs.Paper.{column}
@@ -80,21 +84,34 @@ last-once {x} k w m e h = let l : x - 1 ≤ 1 = omega (arith, e, wide-some k .1)
 abbrev pub limitOf : ℕ → ℕ → ℕ → ℕ
 limitOf x f out = out + f if eqb x 1 else out
 
--- in transit: a count against its limit
-pub transit-is : (k C f q v w out : ℕ) → (k ≡ 0 → ⊥)
-    → (q below wide k && (v if eqb q 0 else w) below (limitOf (wide k) f out if eqb q 0 else f)) ≡ column k C f .inTransit q (coll k C f (two v w)) (shown k C f out)
-unfolding wide coll shown _if_else_
-transit-is zero C f q v w out n = absurd (n refl)
-transit-is (suc zero) C f zero v w out n = rw or-false
-transit-is (suc zero) C f (suc zero) v w out n = refl
-transit-is (suc zero) C f (suc (suc q)) v w out n = rw (le-ltb (suc (suc q)) 2 (omega arith), ne-eqb (suc (suc q)) 0 (omega arith), ne-eqb (suc (suc q)) 1 (omega arith))
-transit-is (suc (suc k)) C f zero v w out n = refl
-transit-is (suc (suc k)) C f (suc q) v w out n = rw (le-ltb (suc q) 1 (omega arith), ne-eqb (suc q) 0 (omega arith))
+-- ---- a receipt, by the code's two ways
+abbrev received : ℕ → ℕ → ℕ → List ℕ → List ℕ
+received k i q w = set w (i + slot k q) (bump k q (getD w (i + slot k q) 0))
 
--- from what the code has in hand
-pub transit-by : {x most g y : ℕ} (k C f q v w out : ℕ) → x ≡ wide k → (k ≡ 0 → ⊥) → most ≡ limitOf x f out → g ≡ (v if eqb q 0 else w) → y ≡ (most if eqb q 0 else f)
-    → (q below x && g below y) ≡ column k C f .inTransit q (coll k C f (two v w)) (shown k C f out)
-transit-by k C f q v w out e n h a b = rw (a, b, h, e) (transit-is k C f q v w out n)
+pub set-received : {x : ℕ} (k i q : ℕ) (w : List ℕ) → k ≡ 0 → x ≡ insert q (getD w i 0) → set w i x ≡ received k i q w
+unfolding slot bump
+set-received {x} k i q w e h = sets (λ (j : ℕ). set w i x ≡ received j i q w) (let z : i + 0 ≡ i = omega arith in rw (z, h)) k e
+
+pub count-received : (k i q : ℕ) (w : List ℕ) → (k ≡ 0 → ⊥) → q < wide k → set w (i + q) (getD w (i + q) 0 + 1) ≡ received k i q w
+unfolding bump
+count-received k i q w n l =
+    rw (← slot-is k q n l) (counts (λ (j : ℕ). set w (i + q) (getD w (i + q) 0 + 1) ≡ set w (i + q) (bump j q (getD w (i + q) 0))) (λ j. rw add-one) k n)
+
+-- in transit: a count against its limit
+pub first-transit : (k C f q v w out : ℕ) → (k ≡ 0 → ⊥) → q ≡ 0 → (v below limitOf (wide k) f out) ≡ column k C f .inTransit q (coll k C f (two v w)) (shown k C f out)
+unfolding wide coll shown _if_else_
+first-transit zero C f q v w out n e = absurd (n refl)
+first-transit (suc zero) C f q v w out n e = rw (e, or-false)
+first-transit (suc (suc k)) C f q v w out n e = rw e
+
+pub other-transit : (k C f q v w out : ℕ) → (k ≡ 0 → ⊥) → (q ≡ 0 → ⊥) → (q below wide k && w below f) ≡ column k C f .inTransit q (coll k C f (two v w)) (shown k C f out)
+unfolding wide coll shown
+other-transit zero C f q v w out n o = absurd (n refl)
+other-transit (suc zero) C f zero v w out n o = absurd (o refl)
+other-transit (suc zero) C f (suc zero) v w out n o = refl
+other-transit (suc zero) C f (suc (suc q)) v w out n o = rw (le-ltb (suc (suc q)) 2 (omega arith), ne-eqb (suc (suc q)) 0 (omega arith), ne-eqb (suc (suc q)) 1 (omega arith))
+other-transit (suc (suc k)) C f zero v w out n o = absurd (o refl)
+other-transit (suc (suc k)) C f (suc q) v w out n o = rw (le-ltb (suc q) 1 (omega arith), ne-eqb (suc q) 0 (omega arith))
 
 -- the lowest source in transit
 module _ (C f v w out : ℕ) where

@@ -2,6 +2,7 @@
 ghost use mathlib.Core.Path.{_≡_};
 ghost use Prim.Native.Nat.{_+_, _≤_, _<_};
 ghost use lib.Dec.{eqb};
+ghost use lib.ListN.{length, getD, set};
 ghost use Rattle.senders.specs.Tally.{least};
 ghost use Rattle.fault.specs.Fault.{_if_else_};
 ghost use Rattle.paper.specs.Paper.{passing, column};
@@ -15,14 +16,6 @@ pub fn wide(form: usize) -> usize
     if form == 1 { 2 } else { 1 }
 }
 
-// The word of a cell that a message from q changes.
-pub fn slot(form: usize, q: usize) -> usize
-    requires { ⌜ ((form ≡ 0 → ⊥) → q < forms.wide form) ⌝ }
-    ensures { λ r. ⌜ (r ≡ forms.slot form q) × (r ≤ q) ⌝ }
-{
-    if form == 0 { 0 } else { q }
-}
-
 // A word after a message from q.
 pub fn bump(form: usize, q: usize, word: u64) -> u64
     requires { ⌜ q < 64 ⌝ }
@@ -34,6 +27,19 @@ pub fn bump(form: usize, q: usize, word: u64) -> u64
     } else {
         word + 1
     }
+}
+
+// The cell that begins at i receives a message from q.
+pub fn receive(form: usize, w: &mut [u64], i: usize, q: usize)
+    requires { ⌜ (q < 64) × (i ≤ 576) × (i + forms.slot form q < length (now w)) ⌝ }
+    requires { ⌜ ((form ≡ 0 → ⊥) → (q < forms.wide form) × (getD (now w) (i + q) 0 ≤ 1000000)) ⌝ }
+    ensures { λ r. ⌜ now (w .exit) ≡ set (now (w .entry)) (i + forms.slot form q) (forms.bump form q (getD (now (w .entry)) (i + forms.slot form q) 0)) ⌝ }
+{
+    if form == 0 {
+        w[i] = senders::with(w[i], q as u64);
+        return;
+    }
+    w[i + q] = w[i + q] + 1;
 }
 
 // ---- the forms that count differ in how many words a cell has; with that number at hand they go one way
@@ -100,8 +106,10 @@ fn count_in_transit(
     requires { ⌜ (f ≤ 64) × (wide ≡ forms.wide form) × (form ≡ 0 → ⊥) × (out ≤ 1000000) ⌝ }
     ensures { λ r. ⌜ r ≡ column form c f .inTransit q (coll form c f (two v w)) (shown form c f out) ⌝ }
 {
-    let most = limit(wide, f, out);
-    (q < wide) & (choose(q == 0, v, w) < choose(q == 0, most, f as u64))
+    if q == 0 {
+        return v < limit(wide, f, out);
+    }
+    (q < wide) & (w < f as u64)
 }
 
 // A first count below this has a message in transit: what was sent, and where it is the only count, one from each faulty board.

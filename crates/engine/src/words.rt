@@ -92,8 +92,8 @@ pub fn hear(s: Sizes, w: &mut [u64], p: usize, m: usize, q: usize)
     requires { ⌜ (Bounded s) × (At s p m) × (Source s q) × (Holds s 1000000 (now w)) ⌝ }
     ensures { λ r. ⌜ now (w .exit) ≡ words.hear (s .correct) (s .types) (forms.wide (s .form)) p m (forms.slot (s .form) q) (forms.bump (s .form) q) (now (w .entry)) ⌝ }
 {
-    let i = cell_at(s, p, m) + form::slot(s.form, q);
-    w[i] = form::bump(s.form, q, w[i]);
+    let i = cell_at(s, p, m);
+    form::receive(s.form, w, i, q);
 }
 
 // Board p sends type m.
