@@ -97,10 +97,10 @@ fn holds(bench: &dyn Bench, seed: u64) -> Vec<(Form, Form, bool)> {
 }
 
 fn holds_on(bench: &(dyn Bench + Sync)) {
-    let all = each_seed(3_000, |seed| holds(bench, seed));
+    let all = each_seed(1_500, |seed| holds(bench, seed));
     let refused = all.iter().filter(|agreed| agreed.is_empty()).count();
     let translated = all.len() - refused;
-    assert!(translated > 500 && refused > 500, "{translated} translated, {refused} refused");
+    assert!(translated > 250 && refused > 250, "{translated} translated, {refused} refused");
     let seen: BTreeSet<(Form, Form, bool)> = all.into_iter().flatten().collect();
     // Each of the six pairs, quiet and not.
     assert_eq!(seen.len(), 12, "{seen:?}");
@@ -143,7 +143,7 @@ fn accepts_alike(bench: &dyn Bench, seed: u64) -> Vec<u8> {
 }
 
 fn accepts_alike_on(bench: &(dyn Bench + Sync)) {
-    let seen: BTreeSet<u8> = each_seed(1_000, |seed| accepts_alike(bench, seed)).into_iter().flatten().collect();
+    let seen: BTreeSet<u8> = each_seed(500, |seed| accepts_alike(bench, seed)).into_iter().flatten().collect();
     assert_eq!(seen.into_iter().collect::<Vec<_>>(), [0, 20, 21, 22, 24, 25]);
 }
 

@@ -1,5 +1,5 @@
 //! Drawings: the text to the byte, every beginning, every gap, stray bytes; and the library against the model on seeded tables
-//! and texts, every lent byte. `DRAWINGS=n` tries more than 6,000 of each.
+//! and texts, every lent byte. `DRAWINGS=n` tries more than 2,000 of each.
 
 use macaroosh::bundles::{each_seed, seeds, Dice};
 use macaroosh::compare::{compare_draw, compare_undraw};
@@ -402,7 +402,7 @@ fn texts_are_read_and_drawn_as_they_are_written() {
 
 // Both agree on what is made of each seed, and the seeds come to just those refusals.
 fn agree_on_seeds(refusals: &[u8], compared: impl Fn(&mut Dice) -> (Vec<u8>, Result<Vec<u8>, String>) + Sync) {
-    let seen = each_seed(seeds("DRAWINGS", 6_000), |seed| {
+    let seen = each_seed(seeds("DRAWINGS", 2_000), |seed| {
         let (input, compared) = compared(&mut Dice::new(seed));
         compared.unwrap_or_else(|difference| {
             panic!("seed {seed}: {difference}\n{}\n{input:02x?}", String::from_utf8_lossy(&input))
