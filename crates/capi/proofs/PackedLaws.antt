@@ -1,7 +1,7 @@
 -- Every answer fits its bits, and is read back from them.
 use mathlib.Core.Path.{_≡_, refl, sym, ap, _∙_, subst⁻¹}
 use mathlib.Core.List.{List}
-use Prim.Native.Nat.{ℕ, _+_, _-_, _*_, _/_, _%_, _^_, _≤_, _<_}
+use Prim.Native.Nat.{ℕ, _+_, _-_, _*_, _/_, _%_, _^_, _<_}
 use native.Mathlib.Omega.{arith}
 use lib.ListN.{length}
 use borrow.Author.Tests.{ne-eqb, ltb-true, lt-ltb}
@@ -14,7 +14,7 @@ use Rattle.engine.proofs.BoundLaws.{AnswerWithin, run-answer-within}
 use Rattle.translate.specs.Entry.{translateToAnswer}
 use Rattle.translate.proofs.BoundLaws.{translate-answer-within}
 use Rattle.drawing.specs.Entry.{drawAnswer, undrawAnswer}
-use Rattle.drawing.proofs.BoundLaws.{DrawnWithin, draw-within, undraw-within}
+use Rattle.drawing.proofs.BoundLaws.{draw-within, undraw-within}
 use Rattle.first_step.specs.declared.First.{First}
 use Rattle.first_step.specs.Entry.{firstAnswer}
 use Rattle.first_step.proofs.BoundLaws.{FirstWithin, first-answer-within}

@@ -18,7 +18,8 @@ use Rattle.paper.proofs.WordLaws.{start-low, length-start, cell-start, sent-sta
 use Rattle.paper.proofs.FormLaws.{coll-inj, shown-inj, coll-init, shown-init}
 use Rattle.paper.proofs.StepLaws.{length-stepped, step-moves, moves-step, moves-one}
 use Rattle.paper.proofs.RunLaws.{run-goes, run-stops, after-none, after-goes}
-use Rattle.engine.specs.Design.{sizesOf, designOf}
+use Rattle.engine.specs.Design.{sizesOf}
+use Rattle.rules.specs.Design.{designOf}
 use Rattle.engine.specs.Entry.{startOf, scheduleOf, ranWith}
 use Rattle.claims.specs.Demand2.{Sized, StepMoves, RunMoves, BundleMoves, Demand2}
 

@@ -1,13 +1,13 @@
 -- Demand 3: the agreement of the forms, for the bytes that translation writes.
-use mathlib.Core.Path.{_≡_, refl, sym, ap, ap₂, _∙_, subst, subst⁻¹}
+use mathlib.Core.Path.{_≡_, refl, sym, ap, _∙_, subst, subst⁻¹}
 use mathlib.Core.Bool.{Bool, true, false, not, true≢false}
 use mathlib.Core.List.{List, _++_}
-use Prim.Native.Nat.{ℕ, zero, suc, _+_, _-_, _*_, _≤_, _<_}
+use Prim.Native.Nat.{ℕ, zero, suc, _+_, _-_, _≤_, _<_}
 use native.Mathlib.Decide.{ℕ-discrete, decLt}
 use native.Mathlib.Omega.{arith}
 use lib.Dec.{eqb}
 use lib.ListN.{length, take, drop, take-append-drop}
-use lib.Seq.{take-length, take-all}
+use lib.Seq.{take-all}
 use borrow.Author.Tests.{eq-eqb, ne-eqb, le-ltb}
 use Rattle.fault.specs.declared.Verdict.{Verdict}
 use Rattle.fault.specs.declared.Answer.{Answer}
@@ -16,7 +16,7 @@ use Rattle.fault.specs.Fault.{refused, nothingDone, _if_else_}
 use Rattle.fault.proofs.FaultLaws.{if-yes, if-no, if-keeps}
 use Rattle.fault.proofs.TestLaws.{same}
 use Rattle.table.specs.Table.{typesOf, rulesOf}
-use Rattle.bundle.specs.Bundle.{nOf, tOf, fOf, formOf, correctOf, tableInUse, startsOf}
+use Rattle.bundle.specs.Bundle.{formOf, tableInUse}
 use Rattle.bundle.specs.Refusals.{readFault}
 use Rattle.bundle.specs.Facts.{Read}
 use Rattle.bundle.proofs.BundleLaws.{read-by, read-within}
@@ -30,11 +30,11 @@ use Rattle.agree.specs.Picture.{Pictured}
 use Rattle.agree.specs.Agreement.{InAllForms}
 use Rattle.agree.proofs.Columns.{picture-laws}
 use Rattle.agree.proofs.Runs.{all-forms}
-use Rattle.engine.specs.declared.Sizes.{Sizes}
-use Rattle.engine.specs.Design.{sizesOf, designOf, roomOf}
+use Rattle.rules.specs.Design.{designOf}
+use Rattle.words.specs.Words.{roomOf}
 use Rattle.engine.specs.Entry.{sizesIn, designIn, startOf, scheduleOf, ranWith, ranOf, ranAnswer, runAnswer}
 use Rattle.engine.proofs.BoundLaws.{ran-within}
-use Rattle.engine.proofs.PlaceLaws.{rows-few, rows-are}
+use Rattle.words.proofs.PlaceLaws.{rows-few, rows-are}
 use Rattle.engine.proofs.EntryLaws.{suits}
 use Rattle.translate.specs.Written.{rewritten, beginOf, translationWith}
 use Rattle.translate.specs.Entry.{translationOf, noOther, wrote, translateToAnswer, translateToBytes, usual, translateAnswer}

@@ -13,7 +13,7 @@ use Rattle.paper.specs.Form.{wide, slot, bump, coll, shown}
 use Rattle.paper.specs.Step.{heard, stepped, malformed, notInTransit, notMet, stepFault}
 use Rattle.paper.specs.Run.{stepsIn, run}
 use Rattle.agree.specs.Translation.{tagOf, tagBy, lowSender, lowest, lowAll, coarser, finer, moved}
-use Rattle.engine.specs.Design.{metAt}
+use Rattle.rules.specs.Design.{metAt}
 use Rattle.engine.specs.Entry.{ranWith, ranAnswer, runAnswer, runWords}
 use Rattle.translate.specs.Written.{bytesOf, rewritten, translationWith}
 use Rattle.translate.specs.Entry.{noOther, wrote, translateToAnswer, translateToBytes, usual}

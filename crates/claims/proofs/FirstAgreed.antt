@@ -13,7 +13,7 @@ use Rattle.agree.specs.Translation.{tagOf, withSource, tagged, lowSender, lowes
 use Rattle.agree.specs.Picture.{Kept, Pictured}
 use Rattle.agree.proofs.Columns.{picture-laws}
 use Rattle.agree.proofs.Agree.{tagged-silent, tagged-message, lowest-silent, lowest-message, typed, low-is, low-first, forward, backward}
-use Rattle.engine.specs.Design.{stepOf}
+use Rattle.step.specs.Step.{stepOf}
 use Rattle.first_step.specs.First.{Found, none, found, isWait, first}
 use Rattle.claims.specs.FirstStep.{EarlierMessage, noMessage, lowerType, lowerSource, Earlier, lowerBoard, lowerRule, message, FirstAgreed}
 use Rattle.claims.proofs.FirstStep.{clash, silent-is, first-possible}

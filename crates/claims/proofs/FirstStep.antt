@@ -13,7 +13,7 @@ use Rattle.fault.specs.Fault.{_if_else_}
 use Rattle.paper.specs.Paper.{Design, Step, silent}
 use Rattle.paper.specs.Step.{columnOf, stepFault}
 use Rattle.paper.proofs.StepLaws.{Accepted, accepted}
-use Rattle.engine.specs.Design.{stepOf}
+use Rattle.step.specs.Step.{stepOf}
 use Rattle.first_step.specs.First.{Found, none, found, orElse, seek, isWait, possible, tries, ofSources, ofTypes, ofRules, first}
 use Rattle.claims.specs.FirstStep.{EarlierMessage, noMessage, lowerType, lowerSource, Earlier, lowerBoard, lowerRule, message, FirstPossible}
 

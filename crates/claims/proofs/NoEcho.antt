@@ -33,7 +33,9 @@ use Rattle.bundle.specs.Bundle.{tOf, fOf, formOf, correctOf, tableInUse, starts
 use Rattle.bundle.specs.Refusals.{readFault}
 use Rattle.bundle.specs.Facts.{Read}
 use Rattle.bundle.proofs.BundleLaws.{use-standing, use-front, read-by, read-within}
-use Rattle.engine.specs.Design.{sizesOf, designOf, metAt, roomOf}
+use Rattle.engine.specs.Design.{sizesOf}
+use Rattle.rules.specs.Design.{designOf, metAt}
+use Rattle.words.specs.Words.{roomOf}
 use Rattle.engine.specs.Entry.{designIn, scheduleOf, ranWith, runAnswer, runWords}
 use Rattle.fault.specs.declared.Answer.{Answer}
 use Rattle.engine.proofs.EntryLaws.{enter-refused, enter-short, enter-run}

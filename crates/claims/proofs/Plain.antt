@@ -27,7 +27,7 @@ use Rattle.agree.proofs.Agree.{tagged-silent, tagged-message, lowest-silent, lo
 use Rattle.engine.specs.Entry.{designIn}
 use Rattle.translate.proofs.ReadLaws.{kept}
 use Rattle.claims.specs.Agreed.{beginIn}
-use Rattle.claims.specs.Plain.{Reached, SoAgree, PlainStep, moving, TagTaken, PlainCounter}
+use Rattle.claims.specs.Plain.{Reached, SoAgree, PlainStep, TagTaken, PlainCounter}
 use Rattle.claims.proofs.Agreed.{all-agreed}
 
 -- ---- none that is sent is faulty

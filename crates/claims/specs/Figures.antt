@@ -8,7 +8,7 @@ use Rattle.threshold.specs.Threshold.{thresholdOf}
 use Rattle.fault.specs.Fault.{verdict}
 use Rattle.table.specs.Table.{coefficientsAt}
 use Rattle.bundle.specs.Refusals.{readFault}
-use Rattle.engine.specs.Design.{thresholdAt}
+use Rattle.rules.specs.Design.{thresholdAt}
 use Rattle.engine.specs.Entry.{runAnswer, runWords}
 use Rattle.translate.specs.Entry.{translateAnswer, translateBytes, translateToAnswer, translateToBytes}
 use Rattle.first_step.specs.declared.First.{First}

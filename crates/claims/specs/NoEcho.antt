@@ -12,7 +12,7 @@ use Rattle.paper.specs.Words.{state, sent, start}
 use Rattle.paper.specs.Form.{wide}
 use Rattle.paper.specs.Step.{columnOf, sentOf, countOf, stepFault}
 use Rattle.paper.specs.Run.{run, after}
-use Rattle.engine.specs.Design.{designOf}
+use Rattle.rules.specs.Design.{designOf}
 use Rattle.engine.specs.Entry.{designIn, runAnswer, runWords}
 use Rattle.first_step.specs.declared.First.{First}
 use Rattle.first_step.specs.Entry.{firstAnswer}

@@ -14,7 +14,9 @@ use Rattle.bundle.specs.Facts.{Read}
 use Rattle.bundle.proofs.BundleLaws.{read-by, read-within}
 use Rattle.paper.proofs.RunLaws.{length-steps, RanWithin, run-within}
 use Rattle.fault.specs.declared.Answer.{Answer}
-use Rattle.engine.specs.Design.{sizesOf, designOf, roomOf}
+use Rattle.engine.specs.Design.{sizesOf}
+use Rattle.rules.specs.Design.{designOf}
+use Rattle.words.specs.Words.{roomOf}
 use Rattle.engine.specs.Entry.{scheduleOf, startOf, sizesIn, ranWith, ranOf, ranAnswer, runAnswer}
 
 -- refusals go to 31, places and a schedule's steps to 4,096; a count to n

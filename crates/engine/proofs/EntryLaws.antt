@@ -20,12 +20,15 @@ use Rattle.paper.specs.Form.{wide}
 use Rattle.paper.specs.Run.{stepsIn, run}
 use Rattle.paper.proofs.WordLaws.{start-low, start-high, length-start}
 use Rattle.paper.proofs.RunLaws.{length-steps}
-use Rattle.engine.specs.declared.Sizes.{Sizes}
+use Rattle.words.specs.declared.Sizes.{Sizes}
 use Rattle.fault.specs.declared.Answer.{Answer}
-use Rattle.engine.specs.Design.{sizesOf, designOf, roomOf}
+use Rattle.engine.specs.Design.{sizesOf}
+use Rattle.rules.specs.Design.{designOf}
+use Rattle.words.specs.Words.{roomOf}
 use Rattle.engine.specs.Entry.{sizesIn, ranWith, ranAnswer, runAnswer, runWords}
-use Rattle.engine.specs.Facts.{Suits, Holds}
-use Rattle.engine.proofs.KeepLaws.{holds-more}
+use Rattle.rules.specs.Facts.{Suits}
+use Rattle.words.specs.Facts.{Holds}
+use Rattle.words.proofs.KeepLaws.{holds-more}
 use Rattle.engine.proofs.RunLaws.{run-holds}
 
 -- ---- what was read

@@ -16,13 +16,17 @@ use Rattle.paper.specs.Step.{stepFault, stepped}
 use Rattle.paper.specs.Run.{stepsIn, Ran, run, noStep}
 use Rattle.paper.proofs.WordLaws.{start-low, start-high, length-start}
 use Rattle.paper.proofs.RunLaws.{length-steps, run-goes, run-stops, step-at, Running, ranTo, running-starts, running-goes, running-stops, running-ends}
-use Rattle.engine.specs.declared.Sizes.{Sizes}
+use Rattle.words.specs.declared.Sizes.{Sizes}
 use Rattle.fault.specs.declared.Answer.{Answer}
-use Rattle.engine.specs.Design.{designOf, recordAt, roomOf}
+use Rattle.rules.specs.Design.{designOf}
+use Rattle.engine.specs.Design.{recordAt}
+use Rattle.words.specs.Words.{roomOf}
 use Rattle.engine.specs.Entry.{ranAnswer}
-use Rattle.engine.specs.Facts.{Suits, Holds}
-use Rattle.engine.proofs.StepLaws.{granted}
-use Rattle.engine.proofs.KeepLaws.{holds-more, holds-stepped}
+use Rattle.rules.specs.Facts.{Suits}
+use Rattle.words.specs.Facts.{Holds}
+use Rattle.step.proofs.StepLaws.{granted}
+use Rattle.words.proofs.KeepLaws.{holds-more}
+use Rattle.step.proofs.KeepLaws.{holds-stepped}
 
 -- ---- the first configuration
 pub fills : (w t : List ℕ) (i r : ℕ) → i < length w → ((j : ℕ) → j < i → getD w j 0 ≡ getD t j 0) → r ≡ getD t i 0 → (j : ℕ) → j < i + 1 → getD (set w i r) j 0 ≡ getD t j 0

@@ -3,7 +3,6 @@ use mathlib.Core.List.{List, _++_}
 use Prim.Native.Nat.{ℕ}
 use lib.Dec.{eqb}
 use lib.ListN.{length, drop}
-use Rattle.fault.specs.declared.Verdict.{Verdict}
 use Rattle.fault.specs.Tests.{_below_, _differs_}
 use Rattle.fault.specs.Fault.{refused, nothingDone, _if_else_}
 use Rattle.bundle.specs.Bundle.{tableInUse, startsOf, stepsOf}
@@ -12,9 +11,11 @@ use Rattle.paper.specs.Paper.{Design, Step}
 use Rattle.paper.specs.Words.{start}
 use Rattle.paper.specs.Form.{wide}
 use Rattle.paper.specs.Run.{stepsIn, Ran, run}
-use Rattle.engine.specs.declared.Sizes.{Sizes}
+use Rattle.words.specs.declared.Sizes.{Sizes}
 use Rattle.fault.specs.declared.Answer.{Answer}
-use Rattle.engine.specs.Design.{sizesOf, designOf, roomOf}
+use Rattle.engine.specs.Design.{sizesOf}
+use Rattle.rules.specs.Design.{designOf}
+use Rattle.words.specs.Words.{roomOf}
 
 -- ---- a bundle with its table in use
 abbrev pub scheduleOf : List ℕ → List Step

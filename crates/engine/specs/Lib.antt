@@ -1,4 +1,2 @@
 pub mod Design
 pub mod Entry
-pub mod Facts
-pub mod Words

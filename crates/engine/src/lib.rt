@@ -10,28 +10,14 @@ ghost use Rattle.paper.specs.Form as forms;
 ghost use Rattle.paper.specs.Step.{stepFault, stepped};
 ghost use Rattle.paper.specs.Run.{stepsIn};
 ghost use Rattle.paper.specs.Run as runs;
-ghost use Rattle.engine.specs.Design.{sizesOf, designOf, recordAt, roomOf};
+ghost use Rattle.engine.specs.Design.{sizesOf, recordAt};
+ghost use Rattle.rules.specs.Design.{designOf};
+ghost use Rattle.words.specs.Words.{roomOf};
 ghost use Rattle.engine.specs.Entry.{ranAnswer, ranWith, runAnswer, runWords};
-ghost use Rattle.engine.specs.Facts.{Suits, Kept, Holds};
+ghost use Rattle.rules.specs.Facts.{Suits, Kept};
+ghost use Rattle.words.specs.Facts.{Holds};
 use fault::Answer;
-
-pub mod form; // functions of the form's number
-pub mod words; // the words of a configuration
-pub mod rules; // the rules as a run keeps them
-pub mod step; // one step
-
-// The numbers that a run goes by.
-pub struct Sizes {
-    pub form: usize,
-    pub correct: usize,
-    pub faulty: usize,
-    pub t: usize,
-    pub types: usize,
-    pub rules: usize,
-    // words of a cell, and of all cells of a board
-    pub wide: usize,
-    pub row: usize,
-}
+use words::Sizes;
 
 // Runs a bundle's schedule in the lent words, for every bundle, standing table and lent slice.
 pub fn run<'a>(bundle: &'a [u8], standing: &'a [u8], lent: &mut [u64]) -> Answer
@@ -78,7 +64,7 @@ pub fn sizes_of(table: &[u8], bundle: &[u8]) -> Sizes
 {
     let form = bundle::form(bundle);
     let types = table::types(table);
-    let wide = form::wide(form);
+    let wide = words::form::wide(form);
     Sizes {
         form,
         correct: bundle::correct(bundle),

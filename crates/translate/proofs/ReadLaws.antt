@@ -18,10 +18,12 @@ use Rattle.paper.specs.Run.{stepsIn, run}
 use Rattle.agree.specs.Translation.{lowAll, finer}
 use Rattle.agree.specs.Picture.{Kept, Pictured}
 use Rattle.agree.proofs.Runs.{start-pictured, backward-run}
-use Rattle.engine.specs.declared.Sizes.{Sizes}
-use Rattle.engine.specs.Design.{sizesOf, designOf}
+use Rattle.words.specs.declared.Sizes.{Sizes}
+use Rattle.engine.specs.Design.{sizesOf}
+use Rattle.rules.specs.Design.{designOf}
 use Rattle.engine.specs.Entry.{scheduleOf, ranWith}
-use Rattle.engine.specs.Facts.{Suits, Holds}
+use Rattle.rules.specs.Facts.{Suits}
+use Rattle.words.specs.Facts.{Holds}
 use Rattle.engine.proofs.EntryLaws.{suits, starts-long, start-holds, steps-few}
 use Rattle.translate.specs.Written.{bytesOf, beginOf}
 use Rattle.translate.specs.Facts.{inForm, Records, RunsLow}

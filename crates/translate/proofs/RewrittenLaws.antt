@@ -1,25 +1,22 @@
 -- A bundle that was read, with other steps, as many as its own, and another form: what it reads as.
 use mathlib.Core.Path.{_≡_, refl, sym, ap, ap₂, _∙_}
 use mathlib.Core.Logic.{_≢_}
-use mathlib.Core.Bool.{Bool, false, _||_}
 use mathlib.Core.List.{List, [], _∷_, _++_}
 use Prim.Native.Nat.{ℕ, zero, suc, _+_, _-_, _*_, _/_, _≤_}
 use native.Mathlib.Nat.{zero-add}
 use native.Mathlib.Omega.{arith}
 use lib.Dec.{eqb}
-use lib.ListN.{length, getD, set, take, drop, length-append, length-drop, length-set, take-append-drop}
-use lib.Seq.{length-take-le, set-append-left, getD-drop, getD-append-add, getD-set-same, getD-set-other, take-at, drop-at, take-take, take-append-le, drop-drop, set-set, set-getD, take-nil}
+use lib.ListN.{length, set, take, drop, length-drop, take-append-drop}
+use lib.Seq.{length-take-le, getD-drop, getD-append-add, getD-set-same, getD-set-other, take-at, drop-at, take-take, take-append-le, drop-drop, set-set, set-getD, take-nil}
 use borrow.Author.Tests.{le-ltb}
-use Rattle.fault.specs.declared.Verdict.{Verdict}
 use Rattle.fault.specs.Bytes.{byteAt, u16At, trailerOf}
 use Rattle.fault.specs.Tests.{_over_}
 use Rattle.fault.specs.Fault.{_if_else_}
 use Rattle.bundle.specs.Bundle.{stepDistance, startDistance, nOf, tOf, fOf, formOf, correctOf, frontLength, tableInUse, startsOf, stepsAt, stepsOf}
 use Rattle.bundle.specs.Refusals.{noTrailer, outOfBundle, notAdmitted, stepsOff, scheduleFault, faultWith, readFault}
 use Rattle.bundle.specs.Facts.{Read}
-use Rattle.paper.specs.Paper.{Design, Step}
+use Rattle.paper.specs.Paper.{Step}
 use Rattle.paper.specs.Run.{stepsIn}
-use Rattle.engine.specs.Design.{sizesOf, designOf}
 use Rattle.engine.specs.Entry.{scheduleOf}
 use Rattle.translate.specs.Written.{bytesOf, rewritten}
 use Rattle.translate.proofs.RecordLaws.{steps-bytes, bytes-steps, length-bytes}

@@ -17,15 +17,17 @@ use Rattle.paper.specs.Paper.{Design, Step, passing, silent, column}
 use Rattle.paper.specs.Words.{cellAt, sentAt, cell, sent}
 use Rattle.paper.specs.Form.{wide, coll, shown}
 use Rattle.paper.specs.Step.{columnOf, rcvdOf, sentOf, stepFault, stepped}
-use Rattle.paper.proofs.StepLaws.{Arrives, accepted}
+use Rattle.paper.proofs.StepLaws.{accepted}
 use Rattle.agree.specs.Translation.{tagOf, withSource, tagBy, lowSender, lowest}
 use Rattle.agree.proofs.Columns.{tag-correct, tag-faulty, tag-only, transit-correct, transit-faulty, picture-laws}
 use Rattle.agree.proofs.Agree.{lowest-message}
-use Rattle.engine.specs.declared.Sizes.{Sizes}
-use Rattle.engine.specs.Design.{designOf, stepOf, recordAt}
-use Rattle.engine.specs.Words.{columnIn, transitIn, silentBytes}
-use Rattle.engine.specs.Facts.{Bounded, At}
-use Rattle.engine.proofs.FormCases.{counts}
+use Rattle.words.specs.declared.Sizes.{Sizes}
+use Rattle.rules.specs.Design.{designOf}
+use Rattle.step.specs.Step.{stepOf, silentBytes}
+use Rattle.engine.specs.Design.{recordAt}
+use Rattle.words.specs.Words.{columnIn, transitIn}
+use Rattle.words.specs.Facts.{Bounded, At}
+use Rattle.words.proofs.FormCases.{counts}
 use Rattle.translate.specs.Facts.{lowestIn}
 
 -- ---- only the source changes

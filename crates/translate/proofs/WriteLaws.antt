@@ -1,7 +1,7 @@
 -- The bytes that are written: the steps in their place, the form at the end, and all the others as they were.
 use mathlib.Core.Path.{_≡_, refl, sym, ap, ap₂, _∙_}
 use mathlib.Core.List.{List, _++_, map}
-use Prim.Native.Nat.{ℕ, zero, suc, _+_, _-_, _*_, _/_, _≤_, _<_}
+use Prim.Native.Nat.{ℕ, zero, suc, _+_, _-_, _*_, _/_, _≤_}
 use native.Mathlib.Omega.{arith}
 use lib.ListN.{length, set, take, drop, length-append, length-drop, length-set, length-map}
 use lib.Seq.{length-take-le}
@@ -13,8 +13,9 @@ use Rattle.paper.specs.Paper.{Design, Step}
 use Rattle.paper.specs.Run.{stepsIn}
 use Rattle.paper.proofs.RunLaws.{length-steps}
 use Rattle.agree.specs.Translation.{tagBy, coarser, finer, moved}
-use Rattle.engine.specs.declared.Sizes.{Sizes}
-use Rattle.engine.specs.Design.{sizesOf, designOf}
+use Rattle.words.specs.declared.Sizes.{Sizes}
+use Rattle.engine.specs.Design.{sizesOf}
+use Rattle.rules.specs.Design.{designOf}
 use Rattle.engine.specs.Entry.{scheduleOf}
 use Rattle.translate.specs.Written.{bytesOf, rewritten, beginOf, translationWith}
 use Rattle.translate.specs.Facts.{Records}

@@ -9,9 +9,9 @@ use Rattle.senders.specs.Tally.{least}
 use Rattle.paper.specs.Form.{wide}
 use Rattle.paper.specs.Run.{stepsIn, run}
 use Rattle.agree.specs.Translation.{tagOf, lowAll}
-use Rattle.engine.specs.declared.Sizes.{Sizes}
-use Rattle.engine.specs.Design.{designOf}
-use Rattle.engine.specs.Words.{columnIn, transitIn}
+use Rattle.words.specs.declared.Sizes.{Sizes}
+use Rattle.rules.specs.Design.{designOf}
+use Rattle.words.specs.Words.{columnIn, transitIn}
 
 -- the same numbers, in form k
 abbrev pub inForm : ℕ → Sizes → Sizes

@@ -9,7 +9,8 @@ use Rattle.paper.specs.Paper.{Step}
 use Rattle.paper.specs.Words.{start}
 use Rattle.paper.specs.Form.{wide}
 use Rattle.agree.specs.Translation.{moved}
-use Rattle.engine.specs.Design.{sizesOf, designOf}
+use Rattle.engine.specs.Design.{sizesOf}
+use Rattle.rules.specs.Design.{designOf}
 use Rattle.engine.specs.Entry.{scheduleOf}
 
 -- the records of a schedule, 4 bytes each: board, rule, type, source

@@ -13,15 +13,18 @@ ghost use Rattle.paper.specs.Paper.{passing, column};
 ghost use Rattle.paper.specs.Step.{stepFault, stepped};
 ghost use Rattle.paper.specs.Run.{stepsIn};
 ghost use Rattle.agree.specs.Translation.{tagOf, tagBy, lowest, lowAll, coarser, finer, moved};
-ghost use Rattle.engine.specs.Design.{sizesOf, designOf, recordAt, roomOf};
+ghost use Rattle.engine.specs.Design.{sizesOf, recordAt};
+ghost use Rattle.rules.specs.Design.{designOf};
+ghost use Rattle.words.specs.Words.{roomOf};
 ghost use Rattle.engine.specs.Entry.{ranAnswer, ranWith};
-ghost use Rattle.engine.specs.Words.{silentBytes};
-ghost use Rattle.engine.specs.Facts.{Bounded, Suits, EndsTo, Kept, Holds, At};
+ghost use Rattle.step.specs.Step.{silentBytes};
+ghost use Rattle.words.specs.Facts.{Bounded, Holds, At};
+ghost use Rattle.rules.specs.Facts.{Suits, EndsTo, Kept};
 ghost use Rattle.translate.specs.Written.{bytesOf, beginOf, translationWith};
 ghost use Rattle.translate.specs.Facts.{inForm, Records, lowestIn, RunsLow};
 ghost use Rattle.translate.specs.Entry.{wrote, translateToAnswer, translateToBytes, usual, translateAnswer, translateBytes};
-use engine::Sizes;
 use fault::Answer;
+use words::Sizes;
 
 // Writes the bundle in the form that its own usually goes to: 0 to 1, 1 to 0, 2 to 1.
 pub fn translate<'a>(bundle: &'a [u8], standing: &'a [u8], out: &mut [u8]) -> Answer
@@ -89,7 +92,7 @@ fn translate_in(
     ensures { λ r. ⌜ now (out .exit) ≡ (translationWith (now (table .entry)) (now (bundle .entry)) form if eqb (ranWith (now (table .entry)) (now (bundle .entry)) .refusal) 0 else now (out .entry)) ⌝ }
 {
     let s = engine::sizes_of(table, bundle);
-    engine::rules::keep(table, s, ends, leasts);
+    rules::keep(table, s, ends, leasts);
     let a = run_own(table, bundle, s, ends, leasts, words);
     if a.refusal != 0 {
         return Answer {
@@ -115,7 +118,7 @@ fn run_own(
     ensures { λ r. ⌜ r ≡ ranAnswer (ranWith (now (table .entry)) (now (bundle .entry))) ⌝ }
     ensures { λ r. ⌜ length (now (words .exit)) ≡ 580 ⌝ }
 {
-    let need = engine::words::room(s);
+    let need = words::room(s);
     engine::run_in(table, bundle, s, ends, leasts, &mut words[..need])
 }
 
@@ -215,7 +218,7 @@ fn tag(j: usize, c: usize, m: usize, q: usize) -> u8
     requires { ⌜ q < 256 ⌝ }
     ensures { λ r. ⌜ r ≡ (q if silentBytes m q else tagOf j c q) ⌝ }
 {
-    if engine::step::silent(m, q) {
+    if step::silent(m, q) {
         return q as u8;
     }
     if j != 0 {
@@ -250,7 +253,7 @@ fn in_form(s: Sizes, k: usize) -> Sizes
     requires { ⌜ s .types ≤ 4 ⌝ }
     ensures { λ r. ⌜ r ≡ inForm k s ⌝ }
 {
-    let wide = engine::form::wide(k);
+    let wide = words::form::wide(k);
     Sizes {
         form: k,
         correct: s.correct,
@@ -276,7 +279,7 @@ fn write_sources(
     ensures { λ r. ⌜ now (steps .exit) ≡ bytesOf (lowAll (s .form) (designOf s (now (table .entry))) (beginOf (now (table .entry)) (now (bundle .entry)) (s .form)) (stepsIn (now (steps .entry)))) ⌝ }
     ensures { λ r. ⌜ length (now (words .exit)) ≡ 580 ⌝ }
 {
-    let need = engine::words::room(s);
+    let need = words::room(s);
     write_from_start(table, bundle, s, ends, &mut words[..need], steps);
 }
 
@@ -321,7 +324,7 @@ fn source_at(table: &[u8], s: Sizes, ends: &[u8], w: &mut [u64], steps: &mut [u8
     let m = fault::byte_at(steps, at + 2);
     let tag = fault::byte_at(steps, at + 3);
     let q = source(s, w, p, m, tag);
-    engine::step::apply_step(table, s, ends, w, p, r, m, q);
+    step::apply_step(table, s, ends, w, p, r, m, q);
     steps[at + 3] = q as u8;
 }
 
@@ -330,14 +333,14 @@ fn source(s: Sizes, w: &[u64], p: usize, m: usize, tag: usize) -> usize
     requires { ⌜ (Bounded s) × (Holds s 1000000 (now w)) × (tag < 256) × (silentBytes m tag ≡ false → (At s p m) × (tag < column (suc (s .form)) (s .correct) (s .faulty) .sources)) ⌝ }
     ensures { λ r. ⌜ (r ≡ (tag if silentBytes m tag else lowestIn s (now (w .entry)) p m tag)) × (r < 256) ⌝ }
 {
-    if engine::step::silent(m, tag) {
+    if step::silent(m, tag) {
         return tag;
     }
     if s.form != 0 {
-        return engine::words::first_source(s, w, p, m);
+        return words::first_source(s, w, p, m);
     }
-    let i = engine::words::cell_at(s, p, m);
-    let j = engine::words::sent_at(s, m);
+    let i = words::cell_at(s, p, m);
+    let j = words::sent_at(s, m);
     lowest_of(s.correct, s.faulty, tag, w[i], w[j])
 }
 

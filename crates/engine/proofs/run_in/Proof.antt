@@ -1,7 +1,7 @@
 use mathlib.Core.Path.{ap, _∙_}
 use borrow.Author.Needs.{needs}
 use Rattle.engine.proofs.EntryLaws.{suits, starts-long, start-holds, steps-few, same-run}
-use Rattle.engine.specs.declared.Sizes.{Sizes}
+use Rattle.words.specs.declared.Sizes.{Sizes}
 use Rattle.engine.specs.Entry.{ranAnswer}
 use Rattle.paper.specs.Run.{Ran}
 use Rattle.engine.proofs.run_in.Statement.{statement}

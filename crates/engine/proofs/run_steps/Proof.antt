@@ -3,7 +3,7 @@ use Prim.Native.Nat.{_+_, _*_, _/_, _-_, _≤_}
 use native.Mathlib.Omega.{arith}
 use borrow.Author.Needs.{needs}
 use lib.ListN.{length}
-use Rattle.engine.proofs.KeepLaws.{holds-more}
+use Rattle.words.proofs.KeepLaws.{holds-more}
 use Rattle.engine.proofs.RunLaws.{SoFar, so-far-none, so-far-more, told-refused, told-all}
 use Rattle.engine.proofs.run_steps.Statement.{statement}
 use Rattle.engine.proofs.run_steps.Tie as tie

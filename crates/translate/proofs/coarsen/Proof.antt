@@ -1,10 +1,5 @@
-use mathlib.Core.Path.{ap, _∙_}
-use Prim.Native.Nat.{ℕ, _-_, _≤_}
+use Prim.Native.Nat.{_-_, _≤_}
 use native.Mathlib.Omega.{arith}
-use borrow.Author.Needs.{needs}
-use Rattle.paper.specs.Run.{stepsIn}
-use Rattle.agree.specs.Translation.{coarser}
-use Rattle.translate.specs.Written.{bytesOf}
 use Rattle.translate.proofs.RecordLaws.{records-kept}
 use Rattle.translate.proofs.WriteLaws.{Coarsened, coarsened-none, coarsened-more, coarsened-all}
 use Rattle.translate.proofs.coarsen.Statement.{statement}

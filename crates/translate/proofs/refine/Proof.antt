@@ -1,12 +1,11 @@
 use mathlib.Core.Path.{_≡_, sym, ap, _∙_, subst⁻¹}
-use Prim.Native.Nat.{ℕ, suc, _-_, _≤_}
+use Prim.Native.Nat.{_-_, _≤_}
 use native.Mathlib.Omega.{arith}
-use borrow.Author.Needs.{needs}
 use lib.ListN.{length}
 use Rattle.bundle.specs.Bundle.{formOf}
-use Rattle.engine.specs.declared.Sizes.{Sizes}
+use Rattle.words.specs.declared.Sizes.{Sizes}
 use Rattle.engine.specs.Design.{sizesOf}
-use Rattle.engine.specs.Facts.{EndsTo}
+use Rattle.rules.specs.Facts.{EndsTo}
 use Rattle.engine.proofs.EntryLaws.{suits}
 use Rattle.translate.specs.Facts.{inForm}
 use Rattle.translate.proofs.ReadLaws.{in-own, Refined, refined-records, refined-none, refined-runs, refined-more, refined-all}

@@ -4,8 +4,8 @@ use borrow.Author.Needs.{needs}
 use Rattle.senders.proofs.TallyLaws.{least-le}
 use Rattle.fault.proofs.FaultLaws.{if-yes, if-no}
 use Rattle.paper.proofs.FormLaws.{wide-some}
-use Rattle.engine.specs.Words.{columnIn, transitIn}
-use Rattle.engine.proofs.PlaceLaws.{sent-in-room}
+use Rattle.words.specs.Words.{columnIn, transitIn}
+use Rattle.words.proofs.PlaceLaws.{sent-in-room}
 use Rattle.translate.proofs.StepLaws.{sources-few, source-low, two-tags, sender-low}
 use Rattle.translate.proofs.source.Statement.{statement}
 use Rattle.translate.proofs.source.Tie as tie

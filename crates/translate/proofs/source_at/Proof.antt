@@ -4,7 +4,7 @@ use Prim.Native.Nat.{_+_, _*_}
 use lib.ListN.{set}
 use borrow.Author.Needs.{needs}
 use Rattle.engine.specs.Design.{recordAt}
-use Rattle.engine.proofs.KeepLaws.{holds-more}
+use Rattle.words.proofs.KeepLaws.{holds-more}
 use Rattle.translate.proofs.StepLaws.{source-what, source-accepted, source-stepped, source-is}
 use Rattle.translate.proofs.source_at.Statement.{statement}
 use Rattle.translate.proofs.source_at.Tie as tie

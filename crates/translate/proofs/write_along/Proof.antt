@@ -1,11 +1,10 @@
 use mathlib.Core.Path.{sym, _∙_, subst⁻¹}
 use Prim.Native.Nat.{_+_, _*_, _/_, _-_, _≤_}
 use native.Mathlib.Omega.{arith}
-use borrow.Author.Needs.{needs}
 use lib.ListN.{length}
-use Rattle.engine.specs.Design.{designOf}
-use Rattle.engine.specs.Facts.{Holds}
-use Rattle.engine.proofs.KeepLaws.{holds-more}
+use Rattle.rules.specs.Design.{designOf}
+use Rattle.words.specs.Facts.{Holds}
+use Rattle.words.proofs.KeepLaws.{holds-more}
 use Rattle.engine.proofs.RunLaws.{holds-on}
 use Rattle.translate.proofs.LoopLaws.{Along, along-none, along-accepts, along-more, along-all}
 use Rattle.translate.proofs.write_along.Statement.{statement}

@@ -4,7 +4,7 @@ use Prim.Native.Nat.{ℕ}
 use borrow.Author.Needs.{needs}
 use Rattle.paper.specs.Run.{stepsIn}
 use Rattle.agree.specs.Translation.{lowAll}
-use Rattle.engine.specs.Design.{designOf}
+use Rattle.rules.specs.Design.{designOf}
 use Rattle.translate.specs.Written.{bytesOf}
 use Rattle.translate.specs.Facts.{RunsLow}
 use Rattle.translate.proofs.ReadLaws.{in-suits, in-starts, in-start, in-holds}

@@ -1,10 +1,9 @@
 use mathlib.Core.Path.{sym, ap, _∙_}
-use Prim.Native.Nat.{ℕ}
 use native.Mathlib.Omega.{arith}
 use borrow.Author.Needs.{needs}
 use Rattle.paper.specs.Run.{stepsIn}
 use Rattle.agree.proofs.Runs.{coarser-only, finer-only}
-use Rattle.engine.specs.Design.{designOf}
+use Rattle.rules.specs.Design.{designOf}
 use Rattle.engine.proofs.EntryLaws.{steps-few}
 use Rattle.translate.specs.Written.{bytesOf, beginOf}
 use Rattle.translate.proofs.write_steps.Statement.{statement}

@@ -1,7 +1,6 @@
 use mathlib.Core.Path.{sym, _∙_}
 use Prim.Native.Nat.{_/_, _-_, _≤_}
 use native.Mathlib.Omega.{arith}
-use borrow.Author.Needs.{needs}
 use lib.ListN.{length}
 use Rattle.translate.proofs.LoopLaws.{Tags, tags-none, tags-more, tags-all}
 use Rattle.translate.proofs.write_tags.Statement.{statement}

@@ -1,0 +1,98 @@
+-- The rules as a run keeps them: each store adds one, and keeps those before it.
+use mathlib.Core.Path.{_≡_, _∙_, subst⁻¹}
+use mathlib.Core.Bool.{not}
+use mathlib.Core.List.{List}
+use Prim.Native.Nat.{ℕ, _+_, _*_, _≤_, _<_}
+use native.Mathlib.Decide.{ℕ-discrete}
+use native.Mathlib.Omega.{arith}
+use lib.Dec.{ltb}
+use lib.ListN.{length, getD, set, length-set}
+use lib.Seq.{getD-set-same, getD-set-other}
+use Rattle.threshold.proofs.LeastLaws.{below-least}
+use Rattle.table.specs.Table.{fromOf, toOf, coefficientsAt}
+use Rattle.words.specs.declared.Sizes.{Sizes}
+use Rattle.rules.specs.Design.{thresholdAt, metAt, leastAt, sendsOf}
+use Rattle.rules.specs.Facts.{Suits, EndsAt, EndsTo, LeastAt, LeastsTo}
+
+pub rule-few : (s : Sizes) (table : List ℕ) → Suits s table → s .rules ≤ 64
+rule-few s table S = omega (arith, S .rules, S .formed .sized .few-rules)
+
+-- a count below the least one meets no threshold
+pub unmet-is : {x c k : ℕ} (table : List ℕ) (at n t : ℕ) → x ≡ leastAt table at n t → c ≡ k → ltb c x ≡ not (metAt table at n t k)
+unfolding metAt
+unmet-is {x} {c} {k} table at n t e f = rw (e, f) (below-least k (thresholdAt table at n t))
+
+module _ (s : Sizes) (table : List ℕ) where
+  -- ---- the ends
+  pub ends-none : (u : List ℕ) → length u ≡ 256 → EndsTo (s .types) table u 0
+  ends-none u l = record { long = l; at = λ r h. absurd (omega arith) }
+
+  pub ends-all : (u : List ℕ) (k n : ℕ) → k ≤ n → n ≤ k → EndsTo (s .types) table u k → EndsTo (s .types) table u n
+  ends-all u k n a b E = let e : n ≡ k = omega arith in rw e E
+
+  module _ (u : List ℕ) (k : ℕ) (h : k < 64) (E : EndsTo (s .types) table u k) where
+    abbrev one : List ℕ
+    one = set u (k * 4) (fromOf table k)
+
+    abbrev two : List ℕ
+    two = set one (k * 4 + 1) (toOf table k)
+
+    abbrev three : List ℕ
+    three = set two (k * 4 + 2) (sendsOf (s .types) table k)
+
+    one-long : length one ≡ 256
+    one-long = length-set u (k * 4) (fromOf table k) ∙ E .long
+
+    two-long : length two ≡ 256
+    two-long = length-set one (k * 4 + 1) (toOf table k) ∙ one-long
+
+    before : (i : ℕ) → i < k * 4 → getD three i 0 ≡ getD u i 0
+    before i l =
+        getD-set-other two (k * 4 + 2) i _ 0 (λ e. omega arith) ∙ getD-set-other one (k * 4 + 1) i _ 0 (λ e. omega arith)
+        ∙ getD-set-other u (k * 4) i _ 0 (λ e. omega arith)
+
+    pub ends-more : {v : List ℕ} → v ≡ three → EndsTo (s .types) table v (k + 1)
+    ends-more {v} e = subst⁻¹ (λ (x : List ℕ). EndsTo (s .types) table x (k + 1)) e (record {
+      long = length-set two (k * 4 + 2) (sendsOf (s .types) table k) ∙ two-long;
+      at = λ r l. go r l (ℕ-discrete r k);
+    })
+      where
+        go : (r : ℕ) → r < k + 1 → Dec (r ≡ k) → EndsAt (s .types) table three r
+        go r l (yes z) = subst⁻¹ (EndsAt (s .types) table three) z (record {
+          from = getD-set-other two (k * 4 + 2) (k * 4) _ 0 (λ e. omega arith) ∙ getD-set-other one (k * 4 + 1) (k * 4) _ 0 (λ e. omega arith)
+              ∙ getD-set-same u (k * 4) _ 0 (omega (arith, E .long));
+          to = getD-set-other two (k * 4 + 2) (k * 4 + 1) _ 0 (λ e. omega arith) ∙ getD-set-same one (k * 4 + 1) _ 0 (omega (arith, one-long));
+          sends = getD-set-same two (k * 4 + 2) _ 0 (omega (arith, two-long));
+        })
+        go r l (no z) =
+            let A = E .at r (omega arith) in
+            record { from = before (r * 4) (omega arith) ∙ A .from; to = before (r * 4 + 1) (omega arith) ∙ A .to; sends = before (r * 4 + 2) (omega arith) ∙ A .sends }
+
+  -- ---- the least counts
+  pub leasts-none : (u : List ℕ) → length u ≡ 256 → LeastsTo s table u 0 0
+  leasts-none u l = record { long = l; at = λ r m h. absurd (omega arith); last = λ m h. absurd (omega arith) }
+
+  pub leasts-all : (u : List ℕ) (k n : ℕ) → k ≤ n → n ≤ k → LeastsTo s table u k 0 → LeastsTo s table u n 0
+  leasts-all u k n a b L = let e : n ≡ k = omega arith in rw e L
+
+  pub leasts-whole : (u : List ℕ) (k j n : ℕ) → j ≤ n → n ≤ j → LeastsTo s table u k j → LeastsTo s table u k n
+  leasts-whole u k j n a b L = let e : n ≡ j = omega arith in rw e L
+
+  pub leasts-next : (u : List ℕ) (k : ℕ) → LeastsTo s table u k (s .types) → LeastsTo s table u (k + 1) 0
+  leasts-next u k L = record { long = L .long; at = λ r m h l. go r m h l (ℕ-discrete r k); last = λ m h. absurd (omega arith) }
+    where
+      go : (r m : ℕ) → r < k + 1 → m < s .types → Dec (r ≡ k) → LeastAt s table u r m
+      go r m h l (yes z) = subst⁻¹ (λ (x : ℕ). LeastAt s table u x m) z (L .last m l)
+      go r m h l (no z) = L .at r m (omega arith) l
+
+  pub leasts-more : {x : ℕ} (u : List ℕ) (k j : ℕ) → k < 64 → s .types ≤ 4 → j < s .types → LeastsTo s table u k j
+      → x ≡ leastAt table (coefficientsAt table k j) (s .correct + s .faulty) (s .t) → LeastsTo s table (set u (k * 4 + j) x) k (j + 1)
+  leasts-more {x} u k j h t l L e = record {
+    long = length-set u (k * 4 + j) x ∙ L .long;
+    at = λ r m a b. getD-set-other u (k * 4 + j) (r * 4 + m) x 0 (λ z. omega arith) ∙ L .at r m a b;
+    last = λ m a. go m a (ℕ-discrete m j);
+  }
+    where
+      go : (m : ℕ) → m < j + 1 → Dec (m ≡ j) → LeastAt s table (set u (k * 4 + j) x) k m
+      go m a (yes z) = subst⁻¹ (λ (y : ℕ). LeastAt s table (set u (k * 4 + j) x) k y) z (getD-set-same u (k * 4 + j) x 0 (omega (arith, L .long)) ∙ e)
+      go m a (no z) = getD-set-other u (k * 4 + j) (k * 4 + m) x 0 (λ y. omega arith) ∙ L .last m (omega arith)

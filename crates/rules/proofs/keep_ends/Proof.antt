@@ -1,0 +1,34 @@
+use mathlib.Core.Path.{sym, _∙_}
+use Prim.Native.Nat.{_-_, _≤_}
+use native.Mathlib.Omega.{arith}
+use borrow.Author.Needs.{needs}
+use Rattle.rules.specs.Facts.{EndsTo}
+use Rattle.rules.proofs.RuleLaws.{rule-few, ends-none, ends-all, ends-more}
+use Rattle.rules.proofs.keep_ends.Statement.{statement}
+use Rattle.rules.proofs.keep_ends.Tie as tie
+
+abbrev Inv-loop : tie.InvT-loop
+Inv-loop table s ends₀ rules r₀ ends r = (r ≤ rules) × EndsTo (s .types) table ends r
+
+abbrev μ-loop : tie.MeasureT-loop
+μ-loop table s ends₀ rules r₀ ends r = rules - r
+
+pub keep-ends-spec : {M : Type 1} → statement M
+keep-ends-spec =
+    tie.close
+    (tie.spec
+    Inv-loop
+    μ-loop
+    (λ c. let st = c .before .before in
+    (omega arith, ends-none (st .args .s) (st .args .table .now) (st .args .ends .now) (st .pre .1)))
+    (λ c κs. let st = c .before .before .before .before .before in
+    (st .pre .0, c .before .loop-test .taken, c .before .before .loop .inv .1 .long))
+    (λ c. search needs)
+    (λ c. search needs)
+    (λ c. let st = c .before .before .before .before .before .before .before .before in
+    let a = st .args in
+    (omega (arith, c .before .before .before .before .loop-test .taken), ends-more (a .s) (a .table .now) (c .before .before .before .before .before .loop .ends) (c .before .before .before .before .before .loop .r) (omega (arith, c .before .before .before .before .loop-test .taken, rule-few (a .s) (a .table .now) (st .pre .0))) (c .before .before .before .before .before .loop .inv .1) (c .before .before .ends-of .ensures)))
+    (λ c. let st = c .before .before .before .before in
+    c .before .loop .inv .1 .long ∙ sym (st .pre .1))
+    (λ c. let a = c .before .before .before .before .args in
+    ends-all (a .s) (a .table .now) (c .before .loop .ends) (c .before .loop .r) (a .s .rules) (c .before .loop .inv .0) (c .loop-test .left) (c .before .loop .inv .1)))

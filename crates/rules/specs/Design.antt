@@ -1,0 +1,42 @@
+-- From bytes to the paper: what a table with n, t, f comes to, as a design.
+use mathlib.Core.Bool.{Bool}
+use mathlib.Core.List.{List}
+use Prim.Native.Nat.{ℕ, _+_}
+use lib.IntN.{ℤ}
+use Rattle.senders.specs.Tally.{least}
+use Rattle.senders.specs.Set.{mem, missing}
+use Rattle.threshold.specs.Threshold.{thresholdOf, metBy, leastOf}
+use Rattle.fault.specs.Bytes.{byteAt}
+use Rattle.table.specs.Table as table
+use Rattle.table.specs.Table.{initialOf, fromOf, toOf, coefficientsAt}
+use Rattle.paper.specs.Paper.{Design}
+use Rattle.words.specs.declared.Sizes.{Sizes}
+
+-- a·n + b·t + d, whose three bytes stand at `at`
+abbrev pub thresholdAt : List ℕ → ℕ → ℕ → ℕ → ℤ
+thresholdAt table at n t = thresholdOf (byteAt table at) (byteAt table (at + 1)) (byteAt table (at + 2)) n t
+
+unfoldable pub metAt : List ℕ → ℕ → ℕ → ℕ → ℕ → Bool
+metAt table at n t count = metBy count (thresholdAt table at n t)
+
+-- the least count that meets it
+abbrev pub leastAt : List ℕ → ℕ → ℕ → ℕ → ℕ
+leastAt table at n t = leastOf (thresholdAt table at n t)
+
+-- the type that rule r sends: the lowest that its end has sent and its start has not; T where there is none
+abbrev pub sendsOf : ℕ → List ℕ → ℕ → ℕ
+sendsOf T tab r = least T (missing (table.sentOf tab (toOf tab r)) (table.sentOf tab (fromOf tab r)))
+
+-- the design: n is the correct boards and the faulty ones
+abbrev pub designOf : Sizes → List ℕ → Design
+designOf s tab = record {
+  boards = s .correct;
+  faulty = s .faulty;
+  types = s .types;
+  rules = s .rules;
+  initial = initialOf tab;
+  hasSent = λ i m. mem (table.sentOf tab i) m;
+  from = fromOf tab;
+  to = toOf tab;
+  met = λ r m c. metAt tab (coefficientsAt tab r m) (s .correct + s .faulty) (s .t) c;
+}

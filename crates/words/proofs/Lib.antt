@@ -1,0 +1,3 @@
+pub mod FormCases
+pub mod PlaceLaws
+pub mod KeepLaws

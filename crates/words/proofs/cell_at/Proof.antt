@@ -1,0 +1,19 @@
+use native.Mathlib.Omega.{arith}
+use Rattle.words.proofs.PlaceLaws.{row-at-few, cell-few, cell-is, cell-inside}
+use Rattle.words.proofs.cell_at.Statement.{statement}
+use Rattle.words.proofs.cell_at.Tie as tie
+
+pub cell-at-spec : {M : Type 1} → statement M
+cell-at-spec =
+    tie.close
+    (tie.spec
+    (λ c. let st = c .before in
+    omega (arith, row-at-few (st .args .s) (st .pre .0) (st .pre .1)))
+    (λ c. let st = c .before .before in
+    omega (arith, row-at-few (st .args .s) (st .pre .0) (st .pre .1), st .pre .0 .boards))
+    (λ c. let st = c .before .before .before in
+    omega (arith, cell-few (st .args .s) (st .pre .0) (st .pre .1)))
+    (λ c. let st = c .before .before .before in
+    omega (arith, row-at-few (st .args .s) (st .pre .0) (st .pre .1), cell-few (st .args .s) (st .pre .0) (st .pre .1), st .pre .0 .boards))
+    (λ c. let st = c .before .before .before in
+    (cell-is (st .args .s) (st .pre .0) (st .pre .1), cell-inside (st .args .s) (st .pre .0) (st .pre .1), omega (arith, row-at-few (st .args .s) (st .pre .0) (st .pre .1), cell-few (st .args .s) (st .pre .0) (st .pre .1), st .pre .0 .boards))))

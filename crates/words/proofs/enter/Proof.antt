@@ -1,0 +1,18 @@
+use mathlib.Core.Path.{sym, ap, _∙_}
+use borrow.Author.Needs.{needs}
+use lib.ListN.{set}
+use lib.Seq.{set-getD}
+use Rattle.words.proofs.enter.Statement.{statement}
+use Rattle.words.proofs.enter.Tie as tie
+
+pub enter-spec : {M : Type 1} → statement M
+enter-spec =
+    tie.close
+    (tie.spec
+    (λ c. search needs)
+    (λ c. search needs)
+    (λ c. let a = c .before .before .args in sym (set-getD (a .w .now) (a .p) 0) ∙ ap (set (a .w .now) (a .p)) (c .if1 .taken))
+    (λ c. search needs)
+    (λ c. search needs)
+    (λ c. search needs)
+    (λ c. search needs))

@@ -1,0 +1,19 @@
+use native.Mathlib.Omega.{arith}
+use Rattle.words.proofs.PlaceLaws.{rows-few, rows-are}
+use Rattle.paper.specs.Words.{sentAt}
+use Rattle.words.proofs.sent_at.Statement.{statement}
+use Rattle.words.proofs.sent_at.Tie as tie
+
+pub sent-at-spec : {M : Type 1} → statement M
+unfolding sentAt
+sent-at-spec =
+    tie.close
+    (tie.spec
+    (λ c. let st = c .before in
+    omega (arith, rows-few (st .args .s) (st .pre .0)))
+    (λ c. let st = c .before .before in
+    omega (arith, rows-few (st .args .s) (st .pre .0), st .pre .0 .boards))
+    (λ c. let st = c .before .before in
+    omega (arith, rows-few (st .args .s) (st .pre .0), st .pre .0 .boards))
+    (λ c. let st = c .before .before in
+    (rw (rows-are (st .args .s) (st .pre .0)), omega (arith, rows-few (st .args .s) (st .pre .0), st .pre .0 .boards))))
