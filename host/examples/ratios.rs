@@ -5,8 +5,8 @@
 //! - `ratios one library|rust run|translate|first FILE COUNT` only asks the question so often, to be counted from outside.
 
 use macaroosh::cases::{cases, Case};
-use macaroosh::fast::Fast;
-use macaroosh::model::Model;
+use macaroosh::judge::fast::Fast;
+use macaroosh::judge::model::Model;
 use macaroosh::{Answer, Bench, First, Library, ECHO, MOST_WORDS};
 use std::process::ExitCode;
 use std::time::{Duration, Instant};

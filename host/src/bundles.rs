@@ -2,7 +2,7 @@
 
 use crate::answer::{Answer, Bench, Step};
 use crate::form::Form;
-use crate::model::{read, Bundle, Configuration, Model, Outline};
+use crate::judge::model::{read, Bundle, Configuration, Model, Outline};
 use crate::ECHO;
 use std::panic::resume_unwind;
 use std::thread;

@@ -3,7 +3,7 @@
 use crate::answer::Step;
 use crate::bundles::{closed, in_form, little_endian, Dice};
 use crate::form::Form;
-use crate::model::{read, Bundle, Configuration, Model, Outline};
+use crate::judge::model::{read, Bundle, Configuration, Model, Outline};
 use crate::ECHO;
 
 /// A bundle to measure with.

@@ -4,7 +4,7 @@
 use crate::answer::Step;
 use crate::bundles::{closed, in_form, little_endian};
 use crate::form::Form;
-use crate::model::{read, Bundle, Model, Outline};
+use crate::judge::model::{read, Bundle, Model, Outline};
 use crate::ECHO;
 
 /// The numbers of correct boards that are measured.

@@ -34,13 +34,10 @@
 pub mod answer;
 pub mod bundles;
 pub mod cases;
-pub mod compare;
-pub mod drawings;
-pub mod fast;
 mod ffi;
 pub mod form;
 pub mod growth;
-pub mod model;
+pub mod judge;
 pub mod parts;
 pub mod refusals;
 pub mod sketches;

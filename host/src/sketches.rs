@@ -2,8 +2,8 @@
 //! same seed.
 
 use crate::bundles::{self, Dice};
-use crate::drawings::{Drawing, Text};
-use crate::model::{read_table, Model, Rule};
+use crate::judge::drawings::{Drawing, Text};
+use crate::judge::model::{read_table, Model, Rule};
 
 /// A table part of any kind.
 pub fn table(dice: &mut Dice) -> Vec<u8> {

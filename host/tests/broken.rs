@@ -3,8 +3,8 @@
 //! others are what the outline asks to be caught.
 
 use macaroosh::bundles::{case, Dice};
-use macaroosh::compare::compare;
-use macaroosh::model::{Bundle, Configuration, Messages, Model, Outline};
+use macaroosh::judge::compare::compare;
+use macaroosh::judge::model::{Bundle, Configuration, Messages, Model, Outline};
 use macaroosh::{Answer, Bench, First, Form, Library, Refusal, Step};
 
 // The first seed whose bundle shows the difference.

@@ -2,9 +2,9 @@
 //! text.
 
 use macaroosh::bundles::Dice;
-use macaroosh::compare::{compare_draw, compare_undraw};
-use macaroosh::drawings::{Drawing, Text};
-use macaroosh::model::{Model, Rule};
+use macaroosh::judge::compare::{compare_draw, compare_undraw};
+use macaroosh::judge::drawings::{Drawing, Text};
+use macaroosh::judge::model::{Model, Rule};
 use macaroosh::{sketches, Answer, Draws, Library};
 use std::ops::RangeInclusive;
 

@@ -2,8 +2,8 @@
 //! is plain, sums stand in place of the correct and faulty counts.
 
 use macaroosh::bundles::{any, each_seed, in_form, with, Dice};
-use macaroosh::fast::Fast;
-use macaroosh::model::{read, Model};
+use macaroosh::judge::fast::Fast;
+use macaroosh::judge::model::{read, Model};
 use macaroosh::parts::{Parts, Picture};
 use macaroosh::{Answer, Bench, Form, Library, Step, ECHO, MOST_WORDS};
 use std::collections::BTreeSet;

@@ -2,9 +2,9 @@
 //! and texts, every lent byte. `DRAWINGS=n` tries more than 2,000 of each.
 
 use macaroosh::bundles::{each_seed, seeds, Dice};
-use macaroosh::compare::{compare_draw, compare_undraw};
-use macaroosh::drawings::{Drawing, Text};
-use macaroosh::model::{read_table, Model, Rule};
+use macaroosh::judge::compare::{compare_draw, compare_undraw};
+use macaroosh::judge::drawings::{Drawing, Text};
+use macaroosh::judge::model::{read_table, Model, Rule};
 use macaroosh::{sketches, Answer, Draws, Library, ECHO, MOST_DRAWING, MOST_TABLE};
 use std::collections::BTreeSet;
 

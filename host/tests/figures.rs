@@ -1,7 +1,7 @@
 //! The outline's figures, and those of the plain form: tables of cases, run over the model, the library and the fast version.
 
-use macaroosh::fast::Fast;
-use macaroosh::model::{read, report, Model, Outline};
+use macaroosh::judge::fast::Fast;
+use macaroosh::judge::model::{read, report, Model, Outline};
 use macaroosh::{Answer, Bench, First, Library, Refusal, Step, ECHO, MOST_BYTES, MOST_WORDS};
 
 const BENCHES: [(&str, &dyn Bench); 3] = [("model", &Model), ("library", &Library), ("fast", &Fast)];

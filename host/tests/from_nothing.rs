@@ -2,7 +2,7 @@
 //! a board to another state or sends anything. With the table that asks for t echoes in place of t + 1, the same schedules do.
 
 use macaroosh::bundles::{closed, each_seed, wild, Dice};
-use macaroosh::model::{read, Bundle, Model};
+use macaroosh::judge::model::{read, Bundle, Model};
 use macaroosh::parts::Parts;
 use macaroosh::{Answer, Bench, First, Form, Library, Step, ECHO, MOST_WORDS};
 use std::collections::BTreeSet;

@@ -2,8 +2,8 @@
 //! 'tests/cargo test' installs it where it is missing.
 
 use macaroosh::bundles::{table, Dice};
-use macaroosh::drawings::Drawing;
-use macaroosh::model::Rule;
+use macaroosh::judge::drawings::Drawing;
+use macaroosh::judge::model::Rule;
 use macaroosh::{draw, sketches, ECHO, MOST_DRAWING};
 use std::io::Write;
 use std::process::{Command, Stdio};

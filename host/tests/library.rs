@@ -3,9 +3,9 @@
 
 use macaroosh::bundles::{case, each_seed, seeds, Dice};
 use macaroosh::cases::cases;
-use macaroosh::compare::{compare, Alike};
-use macaroosh::fast::Fast;
-use macaroosh::model::{read, Model};
+use macaroosh::judge::compare::{compare, Alike};
+use macaroosh::judge::fast::Fast;
+use macaroosh::judge::model::{read, Model};
 use macaroosh::{refusals, Bench, Form, Library, ECHO};
 use std::collections::BTreeMap;
 

@@ -1,8 +1,8 @@
 //! The program: its commands, its refusals in words, mistakes of its user, and what becomes of files.
 
 use macaroosh::bundles::{any, Dice};
-use macaroosh::drawings::Text;
-use macaroosh::model::{read_table, report, Model};
+use macaroosh::judge::drawings::Text;
+use macaroosh::judge::model::{read_table, report, Model};
 use macaroosh::{sketches, Form, MOST_BYTES};
 use std::ffi::OsStr;
 use std::fs::{self, File};

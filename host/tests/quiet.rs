@@ -2,8 +2,8 @@
 //! step with no message whose rule has from = to.
 
 use macaroosh::bundles::{case, closed, each_seed, in_form, with, Dice};
-use macaroosh::fast::Fast;
-use macaroosh::model::{read, Bundle, Model};
+use macaroosh::judge::fast::Fast;
+use macaroosh::judge::model::{read, Bundle, Model};
 use macaroosh::{Bench, First, Form, Library, Step, ECHO, MOST_WORDS};
 use std::collections::BTreeMap;
 

@@ -3,10 +3,10 @@
 //! tests/written.
 
 use macaroosh::bundles::{bundle, closed, each_seed, in_form, seeds, Dice};
-use macaroosh::compare::compare;
-use macaroosh::fast::Fast;
 use macaroosh::growth::{growth, places};
-use macaroosh::model::{read, Bundle, Configuration, Messages, Model, Outline};
+use macaroosh::judge::compare::compare;
+use macaroosh::judge::fast::Fast;
+use macaroosh::judge::model::{read, Bundle, Configuration, Messages, Model, Outline};
 use macaroosh::{Bench, Form, Library, Refusal, Step, ECHO, MOST_WORDS};
 use std::collections::BTreeMap;
 

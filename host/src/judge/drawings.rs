@@ -2,7 +2,7 @@
 //! long as some drawing goes on so. It calls nothing that it judges.
 
 use crate::answer::{Answer, Draws, Refusal};
-use crate::model::{nothing_done, read_table, refused, Model, Rule, Table};
+use crate::judge::model::{nothing_done, read_table, refused, Model, Rule, Table};
 use std::ops::RangeInclusive;
 
 /// What a text draws, by its records; only some of it is a table.

@@ -2,8 +2,8 @@
 
 use crate::answer::{Answer, Bench, Draws, First};
 use crate::bundles::{no_form, Dice};
-use crate::drawings::{Drawing, Text};
-use crate::model::{read, read_table, Model};
+use crate::judge::drawings::{Drawing, Text};
+use crate::judge::model::{read, read_table, Model};
 use std::fmt::Debug;
 
 /// What two benches answered alike.
