@@ -6,8 +6,8 @@
 //! - `growth ask library|rust|more NAME 0|1` reads both bundles, prints the addresses of the first lent word and of the end, and
 //!   asks one of the bundles to be run. `more` is the library, and one store more into its first word.
 
-use macaroosh::growth::growth;
 use macaroosh::judge::fast::Fast;
+use macaroosh::makers::growth::growth;
 use macaroosh::{Answer, Bench, First, Library, ECHO, MOST_WORDS};
 use std::process::ExitCode;
 

@@ -4,9 +4,9 @@
 //! - `ratios write FOLDER` writes each case's bundle there and prints a line for each measurement: file and question.
 //! - `ratios one library|rust run|translate|first FILE COUNT` only asks the question so often, to be counted from outside.
 
-use macaroosh::cases::{cases, Case};
 use macaroosh::judge::fast::Fast;
 use macaroosh::judge::model::Model;
+use macaroosh::makers::cases::{cases, Case};
 use macaroosh::{Answer, Bench, First, Library, ECHO, MOST_WORDS};
 use std::process::ExitCode;
 use std::time::{Duration, Instant};

@@ -32,15 +32,12 @@
 #![warn(missing_docs)]
 
 pub mod answer;
-pub mod bundles;
-pub mod cases;
 mod ffi;
 pub mod form;
-pub mod growth;
 pub mod judge;
+pub mod makers;
 pub mod parts;
 pub mod refusals;
-pub mod sketches;
 
 pub use answer::{Answer, Bench, Draws, First, Refusal, Step};
 pub use form::Form;

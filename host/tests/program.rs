@@ -1,9 +1,10 @@
 //! The program: its commands, its refusals in words, mistakes of its user, and what becomes of files.
 
-use macaroosh::bundles::{any, Dice};
 use macaroosh::judge::drawings::Text;
 use macaroosh::judge::model::{read_table, report, Model};
-use macaroosh::{sketches, Form, MOST_BYTES};
+use macaroosh::makers::bundles::{any, Dice};
+use macaroosh::makers::sketches;
+use macaroosh::{Form, MOST_BYTES};
 use std::ffi::OsStr;
 use std::fs::{self, File};
 use std::io::{Read, Write};

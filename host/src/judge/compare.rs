@@ -1,9 +1,9 @@
 //! Two benches on one bundle, table or drawing: every answer, and every lent word and byte.
 
 use crate::answer::{Answer, Bench, Draws, First};
-use crate::bundles::{no_form, Dice};
 use crate::judge::drawings::{Drawing, Text};
 use crate::judge::model::{read, read_table, Model};
+use crate::makers::bundles::{no_form, Dice};
 use std::fmt::Debug;
 
 /// What two benches answered alike.

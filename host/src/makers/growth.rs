@@ -2,9 +2,9 @@
 //! that a step writes. The model has accepted every step.
 
 use crate::answer::Step;
-use crate::bundles::{closed, in_form, little_endian};
 use crate::form::Form;
 use crate::judge::model::{read, Bundle, Model, Outline};
+use crate::makers::bundles::{closed, in_form, little_endian};
 use crate::ECHO;
 
 /// The numbers of correct boards that are measured.
