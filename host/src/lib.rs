@@ -32,6 +32,7 @@
 #![warn(missing_docs)]
 
 pub mod answer;
+pub mod dice;
 mod ffi;
 pub mod form;
 pub mod judge;

@@ -1,10 +1,10 @@
 //! The comparison of drawings can fail: each broken variant of the model differs from the library on some seeded table or
 //! text.
 
+use macaroosh::dice::Dice;
 use macaroosh::judge::compare::{compare_draw, compare_undraw};
 use macaroosh::judge::drawings::{Drawing, Text};
 use macaroosh::judge::model::{Model, Rule};
-use macaroosh::makers::bundles::Dice;
 use macaroosh::makers::sketches;
 use macaroosh::{Answer, Draws, Library};
 use std::ops::RangeInclusive;

@@ -1,9 +1,10 @@
 //! Graphviz's own program `dot` takes drawings: its image of a table has as many nodes as states and as many edges as rules.
 //! 'tests/cargo test' installs it where it is missing.
 
+use macaroosh::dice::Dice;
 use macaroosh::judge::drawings::Drawing;
 use macaroosh::judge::model::Rule;
-use macaroosh::makers::bundles::{table, Dice};
+use macaroosh::makers::bundles::table;
 use macaroosh::makers::sketches;
 use macaroosh::{draw, ECHO, MOST_DRAWING};
 use std::io::Write;

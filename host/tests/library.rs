@@ -1,10 +1,11 @@
 //! The library and the hand-written fast version against the model on seeded bundles, every lent word and byte. `SEEDS=n` tries
 //! more than 20,000.
 
+use macaroosh::dice::{each_seed, seeds, Dice};
 use macaroosh::judge::compare::{compare, Alike};
 use macaroosh::judge::fast::Fast;
 use macaroosh::judge::model::{read, Model};
-use macaroosh::makers::bundles::{case, each_seed, seeds, Dice};
+use macaroosh::makers::bundles::case;
 use macaroosh::makers::cases::cases;
 use macaroosh::{refusals, Bench, Form, Library, ECHO};
 use std::collections::BTreeMap;

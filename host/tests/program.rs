@@ -1,8 +1,9 @@
 //! The program: its commands, its refusals in words, mistakes of its user, and what becomes of files.
 
+use macaroosh::dice::Dice;
 use macaroosh::judge::drawings::Text;
 use macaroosh::judge::model::{read_table, report, Model};
-use macaroosh::makers::bundles::{any, Dice};
+use macaroosh::makers::bundles::any;
 use macaroosh::makers::sketches;
 use macaroosh::{Form, MOST_BYTES};
 use std::ffi::OsStr;

@@ -1,7 +1,8 @@
 //! The proved report program against the model, on seeded bundles. `REPORTS=n` tries more than 1,500.
 
+use macaroosh::dice::{each_seed, seeds, Dice};
 use macaroosh::judge::model::{read, report};
-use macaroosh::makers::bundles::{any, each_seed, seeds, Dice};
+use macaroosh::makers::bundles::any;
 use macaroosh::{Form, ECHO};
 use std::collections::BTreeSet;
 use std::io::Write;

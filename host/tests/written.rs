@@ -2,10 +2,11 @@
 //! beside the run of the prefix one step shorter. `SEEDS=n` tries more than 2,000. What is stored without a change is counted by
 //! tests/written.
 
+use macaroosh::dice::{each_seed, seeds, Dice};
 use macaroosh::judge::compare::compare;
 use macaroosh::judge::fast::Fast;
 use macaroosh::judge::model::{read, Bundle, Configuration, Messages, Model, Outline};
-use macaroosh::makers::bundles::{bundle, closed, each_seed, in_form, seeds, Dice};
+use macaroosh::makers::bundles::{bundle, closed, in_form};
 use macaroosh::makers::growth::{growth, places};
 use macaroosh::{Bench, Form, Library, Refusal, Step, ECHO, MOST_WORDS};
 use std::collections::BTreeMap;

@@ -1,9 +1,10 @@
 //! The bundles that speed is measured on, all read beside the echo table. The model has accepted each of their steps.
 
 use crate::answer::Step;
+use crate::dice::Dice;
 use crate::form::Form;
 use crate::judge::model::{read, Bundle, Configuration, Model, Outline};
-use crate::makers::bundles::{closed, in_form, little_endian, Dice};
+use crate::makers::bundles::{closed, in_form, little_endian};
 use crate::ECHO;
 
 /// A bundle to measure with.
