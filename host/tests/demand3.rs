@@ -4,8 +4,8 @@
 use macaroosh::dice::{each_seed, Dice};
 use macaroosh::judge::fast::Fast;
 use macaroosh::judge::model::{read, Model};
+use macaroosh::library::parts::{Parts, Picture};
 use macaroosh::makers::bundles::{any, in_form, with};
-use macaroosh::parts::{Parts, Picture};
 use macaroosh::{Answer, Bench, Form, Library, Step, ECHO, MOST_WORDS};
 use std::collections::BTreeSet;
 

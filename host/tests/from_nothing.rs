@@ -3,8 +3,8 @@
 
 use macaroosh::dice::{each_seed, Dice};
 use macaroosh::judge::model::{read, Bundle, Model};
+use macaroosh::library::parts::Parts;
 use macaroosh::makers::bundles::{closed, wild};
-use macaroosh::parts::Parts;
 use macaroosh::{Answer, Bench, First, Form, Library, Step, ECHO, MOST_WORDS};
 use std::collections::BTreeSet;
 

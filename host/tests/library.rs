@@ -7,7 +7,8 @@ use macaroosh::judge::fast::Fast;
 use macaroosh::judge::model::{read, Model};
 use macaroosh::makers::bundles::case;
 use macaroosh::makers::cases::cases;
-use macaroosh::{refusals, Bench, Form, Library, ECHO};
+use macaroosh::terms::refusals;
+use macaroosh::{Bench, Form, Library, ECHO};
 use std::collections::BTreeMap;
 
 // The refusals of run and translation that came up on the seed's bundle, and the kind of its first step.

@@ -1,10 +1,10 @@
 //! Two benches on one bundle, table or drawing: every answer, and every lent word and byte.
 
-use crate::answer::{Answer, Bench, Draws, First};
 use crate::dice::Dice;
-use crate::form::Form;
 use crate::judge::drawings::{Drawing, Text};
 use crate::judge::model::{read, read_table, Model};
+use crate::terms::answer::{Answer, Bench, Draws, First};
+use crate::terms::form::Form;
 use std::fmt::Debug;
 
 /// What two benches answered alike.
