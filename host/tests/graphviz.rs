@@ -1,5 +1,5 @@
 //! Graphviz's own program `dot` takes drawings: its image of a table has as many nodes as states and as many edges as rules.
-//! 'tests/cargo test' installs it where it is missing.
+//! 'tools/cargo test' installs it where it is missing.
 
 use macaroosh::dice::Dice;
 use macaroosh::judge::drawings::Drawing;
@@ -26,7 +26,7 @@ fn image(text: &str) -> String {
         .stdout(Stdio::piped())
         .stderr(Stdio::piped())
         .spawn()
-        .expect("Graphviz's program 'dot' starts: run 'tests/cargo test', which installs it");
+        .expect("Graphviz's program 'dot' starts: run 'tools/cargo test', which installs it");
     child.stdin.take().expect("its input").write_all(text.as_bytes()).expect("the drawing is taken");
     let ended = child.wait_with_output().expect("it ends");
     assert!(ended.status.success() && ended.stderr.is_empty(), "{}\n{text}", String::from_utf8_lossy(&ended.stderr));
