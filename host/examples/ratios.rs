@@ -42,7 +42,7 @@ fn questions(case: &Case) -> &'static [&'static str] {
 
 fn ratios() -> Result<(), String> {
     if std::env::var_os("MACAROOSH_RUNNER").is_some() {
-        eprintln!("times under an emulator say nothing: tests/instructions counts instead");
+        eprintln!("times under an emulator say nothing: measure/instructions counts instead");
     }
     println!("{:<12} {:<9} {:<9} {:>12} {:>12} {:>7}", "case", "form", "question", "library ns", "rust ns", "ratio");
     for case in cases() {

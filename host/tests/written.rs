@@ -1,6 +1,6 @@
 //! A step changes the words that the outline gives it, and no other: the run of every prefix of a seeded schedule, in each form,
 //! beside the run of the prefix one step shorter. `SEEDS=n` tries more than 2,000. What is stored without a change is counted by
-//! tests/written.
+//! measure/written.
 
 use macaroosh::dice::{each_seed, seeds, Dice};
 use macaroosh::judge::compare::compare;
