@@ -1,4 +1,4 @@
-//! One step, to be counted from outside: its instructions by measure/growth, the words that it stores by measure/written.
+//! One step, to be counted from outside: its instructions by measure/growth, the words it stores by measure/written.
 //!
 //! - `growth write FOLDER` writes the bundles of each pair there, NAME-0 without and NAME-1 with the last step, and prints a line
 //!   for each pair: NAME, form, types, kind, boards, how many words are stored before the step, and the places of those that it
