@@ -8,7 +8,7 @@ fn main() {
     let named = env::var_os("MACAROOSH_ARCHIVE").map(PathBuf::from);
     let for_x86_64 = env::var("CARGO_CFG_TARGET_ARCH").map_or(false, |arch| arch == "x86_64");
     if named.is_none() && !for_x86_64 {
-        println!("cargo:warning=the archive is for x86-64; to build programs use tests/cargo, which builds for that");
+        println!("cargo:warning=the archive is for x86-64; to build programs use tools/cargo, which builds for that");
     }
     let folder = named.unwrap_or_else(|| {
         let mut root = PathBuf::from(env::var_os("CARGO_MANIFEST_DIR").unwrap_or_default());

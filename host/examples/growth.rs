@@ -1,4 +1,4 @@
-//! One step, to be counted from outside: its instructions by tests/growth, the words that it stores by tests/written.
+//! One step, to be counted from outside: its instructions by measure/growth, the words it stores by measure/written.
 //!
 //! - `growth write FOLDER` writes the bundles of each pair there, NAME-0 without and NAME-1 with the last step, and prints a line
 //!   for each pair: NAME, form, types, kind, boards, how many words are stored before the step, and the places of those that it
@@ -6,8 +6,8 @@
 //! - `growth ask library|rust|more NAME 0|1` reads both bundles, prints the addresses of the first lent word and of the end, and
 //!   asks one of the bundles to be run. `more` is the library, and one store more into its first word.
 
-use macaroosh::fast::Fast;
-use macaroosh::growth::growth;
+use macaroosh::judge::fast::Fast;
+use macaroosh::makers::growth::growth;
 use macaroosh::{Answer, Bench, First, Library, ECHO, MOST_WORDS};
 use std::process::ExitCode;
 

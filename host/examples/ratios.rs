@@ -4,9 +4,9 @@
 //! - `ratios write FOLDER` writes each case's bundle there and prints a line for each measurement: file and question.
 //! - `ratios one library|rust run|translate|first FILE COUNT` only asks the question so often, to be counted from outside.
 
-use macaroosh::cases::{cases, Case};
-use macaroosh::fast::Fast;
-use macaroosh::model::Model;
+use macaroosh::judge::fast::Fast;
+use macaroosh::judge::model::Model;
+use macaroosh::makers::cases::{cases, Case};
 use macaroosh::{Answer, Bench, First, Library, ECHO, MOST_WORDS};
 use std::process::ExitCode;
 use std::time::{Duration, Instant};
@@ -42,7 +42,7 @@ fn questions(case: &Case) -> &'static [&'static str] {
 
 fn ratios() -> Result<(), String> {
     if std::env::var_os("MACAROOSH_RUNNER").is_some() {
-        eprintln!("times under an emulator say nothing: tests/instructions counts instead");
+        eprintln!("times under an emulator say nothing: measure/instructions counts instead");
     }
     println!("{:<12} {:<9} {:<9} {:>12} {:>12} {:>7}", "case", "form", "question", "library ns", "rust ns", "ratio");
     for case in cases() {

@@ -2,9 +2,10 @@
 //! outline's slips that look harmless, the next four take waits wrongly, five more the plain form, six the form asked for; the
 //! others are what the outline asks to be caught.
 
-use macaroosh::bundles::{case, Dice};
-use macaroosh::compare::compare;
-use macaroosh::model::{Bundle, Configuration, Messages, Model, Outline};
+use macaroosh::dice::Dice;
+use macaroosh::judge::compare::compare;
+use macaroosh::judge::model::{Bundle, Configuration, Messages, Model, Outline};
+use macaroosh::makers::bundles::case;
 use macaroosh::{Answer, Bench, First, Form, Library, Refusal, Step};
 
 // The first seed whose bundle shows the difference.

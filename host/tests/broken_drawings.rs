@@ -1,11 +1,12 @@
 //! The comparison of drawings can fail: each broken variant of the model differs from the library on some seeded table or
 //! text.
 
-use macaroosh::bundles::Dice;
-use macaroosh::compare::{compare_draw, compare_undraw};
-use macaroosh::drawings::{Drawing, Text};
-use macaroosh::model::{Model, Rule};
-use macaroosh::{sketches, Answer, Draws, Library};
+use macaroosh::dice::Dice;
+use macaroosh::judge::compare::{compare_draw, compare_undraw};
+use macaroosh::judge::drawings::{Drawing, Text};
+use macaroosh::judge::model::{Model, Rule};
+use macaroosh::makers::sketches;
+use macaroosh::{Answer, Draws, Library};
 use std::ops::RangeInclusive;
 
 // The first seed whose table or text shows the difference.

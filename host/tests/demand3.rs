@@ -1,10 +1,11 @@
 //! Demand 3 on a bench's own outputs: what a schedule does in one form, its translation does in each other. Where one of the two
 //! is plain, sums stand in place of the correct and faulty counts.
 
-use macaroosh::bundles::{any, each_seed, in_form, with, Dice};
-use macaroosh::fast::Fast;
-use macaroosh::model::{read, Model};
-use macaroosh::parts::{Parts, Picture};
+use macaroosh::dice::{each_seed, Dice};
+use macaroosh::judge::fast::Fast;
+use macaroosh::judge::model::{read, Model};
+use macaroosh::library::parts::{Parts, Picture};
+use macaroosh::makers::bundles::{any, in_form, with};
 use macaroosh::{Answer, Bench, Form, Library, Step, ECHO, MOST_WORDS};
 use std::collections::BTreeSet;
 

@@ -1,9 +1,10 @@
 //! Q-5, "No echo from nothing": where every correct board starts in V0, which is state 0, no schedule of the echo table brings
 //! a board to another state or sends anything. With the table that asks for t echoes in place of t + 1, the same schedules do.
 
-use macaroosh::bundles::{closed, each_seed, wild, Dice};
-use macaroosh::model::{read, Bundle, Model};
-use macaroosh::parts::Parts;
+use macaroosh::dice::{each_seed, Dice};
+use macaroosh::judge::model::{read, Bundle, Model};
+use macaroosh::library::parts::Parts;
+use macaroosh::makers::bundles::{closed, wild};
 use macaroosh::{Answer, Bench, First, Form, Library, Step, ECHO, MOST_WORDS};
 use std::collections::BTreeSet;
 

@@ -1,10 +1,12 @@
 //! Graphviz's own program `dot` takes drawings: its image of a table has as many nodes as states and as many edges as rules.
-//! 'tests/cargo test' installs it where it is missing.
+//! 'tools/cargo test' installs it where it is missing.
 
-use macaroosh::bundles::{table, Dice};
-use macaroosh::drawings::Drawing;
-use macaroosh::model::Rule;
-use macaroosh::{draw, sketches, ECHO, MOST_DRAWING};
+use macaroosh::dice::Dice;
+use macaroosh::judge::drawings::Drawing;
+use macaroosh::judge::model::Rule;
+use macaroosh::makers::bundles::table;
+use macaroosh::makers::sketches;
+use macaroosh::{draw, ECHO, MOST_DRAWING};
 use std::io::Write;
 use std::process::{Command, Stdio};
 
@@ -24,7 +26,7 @@ fn image(text: &str) -> String {
         .stdout(Stdio::piped())
         .stderr(Stdio::piped())
         .spawn()
-        .expect("Graphviz's program 'dot' starts: run 'tests/cargo test', which installs it");
+        .expect("Graphviz's program 'dot' starts: run 'tools/cargo test', which installs it");
     child.stdin.take().expect("its input").write_all(text.as_bytes()).expect("the drawing is taken");
     let ended = child.wait_with_output().expect("it ends");
     assert!(ended.status.success() && ended.stderr.is_empty(), "{}\n{text}", String::from_utf8_lossy(&ended.stderr));

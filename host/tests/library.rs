@@ -1,12 +1,14 @@
 //! The library and the hand-written fast version against the model on seeded bundles, every lent word and byte. `SEEDS=n` tries
 //! more than 20,000.
 
-use macaroosh::bundles::{case, each_seed, seeds, Dice};
-use macaroosh::cases::cases;
-use macaroosh::compare::{compare, Alike};
-use macaroosh::fast::Fast;
-use macaroosh::model::{read, Model};
-use macaroosh::{refusals, Bench, Form, Library, ECHO};
+use macaroosh::dice::{each_seed, seeds, Dice};
+use macaroosh::judge::compare::{compare, Alike};
+use macaroosh::judge::fast::Fast;
+use macaroosh::judge::model::{read, Model};
+use macaroosh::makers::bundles::case;
+use macaroosh::makers::cases::cases;
+use macaroosh::terms::refusals;
+use macaroosh::{Bench, Form, Library, ECHO};
 use std::collections::BTreeMap;
 
 // The refusals of run and translation that came up on the seed's bundle, and the kind of its first step.

@@ -1,9 +1,11 @@
 //! The program: its commands, its refusals in words, mistakes of its user, and what becomes of files.
 
-use macaroosh::bundles::{any, Dice};
-use macaroosh::drawings::Text;
-use macaroosh::model::{read_table, report, Model};
-use macaroosh::{sketches, Form, MOST_BYTES};
+use macaroosh::dice::Dice;
+use macaroosh::judge::drawings::Text;
+use macaroosh::judge::model::{read_table, report, Model};
+use macaroosh::makers::bundles::any;
+use macaroosh::makers::sketches;
+use macaroosh::{Form, MOST_BYTES};
 use std::ffi::OsStr;
 use std::fs::{self, File};
 use std::io::{Read, Write};

@@ -1,9 +1,10 @@
 //! When a run has gone quiet: run and translation accept waits, and the first-step question passes them over. A wait is a
 //! step with no message whose rule has from = to.
 
-use macaroosh::bundles::{case, closed, each_seed, in_form, with, Dice};
-use macaroosh::fast::Fast;
-use macaroosh::model::{read, Bundle, Model};
+use macaroosh::dice::{each_seed, Dice};
+use macaroosh::judge::fast::Fast;
+use macaroosh::judge::model::{read, Bundle, Model};
+use macaroosh::makers::bundles::{case, closed, in_form, with};
 use macaroosh::{Bench, First, Form, Library, Step, ECHO, MOST_WORDS};
 use std::collections::BTreeMap;
 

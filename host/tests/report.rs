@@ -1,31 +1,19 @@
 //! The proved report program against the model, on seeded bundles. `REPORTS=n` tries more than 1,500.
 
-use macaroosh::bundles::{any, each_seed, seeds, Dice};
-use macaroosh::model::{read, report};
-use macaroosh::{Form, ECHO};
-use std::collections::BTreeSet;
-use std::io::Write;
-use std::path::Path;
-use std::process::{Command, Stdio};
+mod reporter;
 
-fn proved(bundle: &[u8]) -> String {
-    let program = Path::new(env!("CARGO_MANIFEST_DIR")).join("../tests/run-report");
-    let mut child = Command::new(program)
-        .stdin(Stdio::piped())
-        .stdout(Stdio::piped())
-        .spawn()
-        .expect("the report program starts: run 'rt check report' first");
-    // The program stops reading past its limit; a closed pipe is no fault of the test.
-    let _ = child.stdin.take().expect("its input").write_all(bundle);
-    let output = child.wait_with_output().expect("the report program ends");
-    String::from_utf8(output.stdout).expect("text")
-}
+use macaroosh::dice::{each_seed, seeds, Dice};
+use macaroosh::judge::model::{read, report};
+use macaroosh::makers::bundles::any;
+use macaroosh::{Form, ECHO};
+use reporter::reported;
+use std::collections::BTreeSet;
 
 // The refusal that was reported, and the form of a bundle that is not refused by reading.
 fn agrees(seed: u64) -> (String, Option<Form>) {
     let bundle = any(&mut Dice::new(seed));
     let expected = report(&bundle);
-    assert_eq!(proved(&bundle), expected, "seed {seed}: {bundle:02x?}");
+    assert_eq!(reported(&[&bundle]), expected, "seed {seed}: {bundle:02x?}");
     let form = read(&bundle, &ECHO).ok().map(|bundle| bundle.form);
     (expected.split(' ').nth(1).expect("a number").to_string(), form)
 }

@@ -1,12 +1,13 @@
 //! A step changes the words that the outline gives it, and no other: the run of every prefix of a seeded schedule, in each form,
 //! beside the run of the prefix one step shorter. `SEEDS=n` tries more than 2,000. What is stored without a change is counted by
-//! tests/written.
+//! measure/written.
 
-use macaroosh::bundles::{bundle, closed, each_seed, in_form, seeds, Dice};
-use macaroosh::compare::compare;
-use macaroosh::fast::Fast;
-use macaroosh::growth::{growth, places};
-use macaroosh::model::{read, Bundle, Configuration, Messages, Model, Outline};
+use macaroosh::dice::{each_seed, seeds, Dice};
+use macaroosh::judge::compare::compare;
+use macaroosh::judge::fast::Fast;
+use macaroosh::judge::model::{read, Bundle, Configuration, Messages, Model, Outline};
+use macaroosh::makers::bundles::{bundle, closed, in_form};
+use macaroosh::makers::growth::{growth, places};
 use macaroosh::{Bench, Form, Library, Refusal, Step, ECHO, MOST_WORDS};
 use std::collections::BTreeMap;
 

@@ -1,4 +1,5 @@
-//! The archive's C calls, and the only unsafe code: a slice passes as a pointer and a length in elements.
+//! The archive's C calls, and the only unsafe code: a slice passes as a pointer and a length in elements. `tests/header.rs` holds
+//! these declarations to the C header.
 #![allow(unsafe_code)]
 
 mod capi {

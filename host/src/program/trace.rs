@@ -3,7 +3,7 @@
 
 use crate::replies::{Question, Reply};
 use crate::show;
-use macaroosh::parts::{Parts, Picture};
+use macaroosh::library::parts::{Parts, Picture};
 use macaroosh::{run, translate_to, Form, Step, MOST_WORDS};
 
 /// The trace of a bundle, up to a step that is refused.

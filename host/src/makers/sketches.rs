@@ -1,9 +1,10 @@
 //! Tables and texts for the tests of drawings: sound, with any blanks and any numbers, damaged, or noise; the same for the
 //! same seed.
 
-use crate::bundles::{self, Dice};
-use crate::drawings::{Drawing, Text};
-use crate::model::{read_table, Model, Rule};
+use crate::dice::Dice;
+use crate::judge::drawings::{Drawing, Text};
+use crate::judge::model::{read_table, Model, Rule};
+use crate::makers::bundles;
 
 /// A table part of any kind.
 pub fn table(dice: &mut Dice) -> Vec<u8> {

@@ -1,10 +1,11 @@
 //! The bundles that speed is measured on, all read beside the echo table. The model has accepted each of their steps.
 
-use crate::answer::Step;
-use crate::bundles::{closed, in_form, little_endian, Dice};
-use crate::form::Form;
-use crate::model::{read, Bundle, Configuration, Model, Outline};
-use crate::ECHO;
+use crate::dice::Dice;
+use crate::judge::model::{read, Bundle, Configuration, Model, Outline};
+use crate::makers::bundles::{closed, in_form, little_endian};
+use crate::terms::answer::Step;
+use crate::terms::echo::ECHO;
+use crate::terms::form::Form;
 
 /// A bundle to measure with.
 pub struct Case {

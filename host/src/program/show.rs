@@ -1,6 +1,6 @@
 //! Answers as people read them, and as programs do.
 
-use macaroosh::parts::{Parts, Picture};
+use macaroosh::library::parts::{Parts, Picture};
 use macaroosh::{Answer, First, Form, Refusal, Step};
 use std::path::Path;
 

@@ -1,9 +1,10 @@
 //! Two benches on one bundle, table or drawing: every answer, and every lent word and byte.
 
-use crate::answer::{Answer, Bench, Draws, First};
-use crate::bundles::{no_form, Dice};
-use crate::drawings::{Drawing, Text};
-use crate::model::{read, read_table, Model};
+use crate::dice::Dice;
+use crate::judge::drawings::{Drawing, Text};
+use crate::judge::model::{read, read_table, Model};
+use crate::terms::answer::{Answer, Bench, Draws, First};
+use crate::terms::form::Form;
 use std::fmt::Debug;
 
 /// What two benches answered alike.
@@ -74,6 +75,21 @@ pub fn compare_undraw(one: &dyn Draws, other: &dyn Draws, text: &[u8], dice: &mu
         refusals.push(same("undraw", junk(length, dice), ours, theirs)?);
     }
     Ok(refusals)
+}
+
+// A number to ask for as a form: none of the forms' own, often one that has a form's in its lowest bytes.
+fn no_form(dice: &mut Dice) -> u64 {
+    let low = dice.below(Form::ALL.len()) as u64;
+    match dice.below(8) {
+        0 => 3,
+        1 => 255,
+        2 => 256 + low,
+        3 => (1 << 16) + low,
+        4 => (1 << 32) + low,
+        5 => (1 << 63) + low,
+        6 => u64::MAX,
+        _ => dice.junk() | 4,
+    }
 }
 
 fn lengths(exact: usize, dice: &mut Dice) -> [usize; 4] {

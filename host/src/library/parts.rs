@@ -1,7 +1,7 @@
 //! The parts of a bundle that the library has read, for showing: what its bytes and its words say.
 
-use crate::answer::Step;
-use crate::form::Form;
+use crate::terms::answer::Step;
+use crate::terms::form::Form;
 
 /// A bundle by its parts.
 #[derive(Debug)]

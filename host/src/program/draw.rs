@@ -4,7 +4,7 @@ use crate::args::Image;
 use crate::graphviz::{self, Layout};
 use crate::replies::Reply;
 use crate::show;
-use macaroosh::refusals::{self, Place};
+use macaroosh::terms::refusals::{self, Place};
 use macaroosh::{Answer, Refusal, MOST_DRAWING, MOST_TABLE};
 use std::path::Path;
 

@@ -1,8 +1,9 @@
 //! The outline, read aloud: bundles are vectors, sets are sets, and nothing is clever. It calls nothing that it judges.
 
-use crate::answer::{Answer, Bench, First, Refusal, Step};
-use crate::form::Form;
-use crate::{ECHO, MOST_BYTES};
+use crate::terms::answer::{Answer, Bench, First, Refusal, Step};
+use crate::terms::echo::ECHO;
+use crate::terms::form::Form;
+use crate::terms::sizes::MOST_BYTES;
 use std::collections::BTreeSet;
 use std::ops::Range;
 

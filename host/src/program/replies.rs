@@ -1,8 +1,8 @@
 //! What each command has to say about a bundle; `trace` has a file of its own.
 
 use crate::show;
-use macaroosh::parts::Parts;
-use macaroosh::refusals::{self, Place};
+use macaroosh::library::parts::Parts;
+use macaroosh::terms::refusals::{self, Place};
 use macaroosh::{Form, Refusal, Step, MOST_WORDS};
 use std::path::Path;
 

@@ -1,8 +1,8 @@
 //! Drawings of a table, read aloud: the text that is written for a table, and a reader that takes bytes one by one for as
 //! long as some drawing goes on so. It calls nothing that it judges.
 
-use crate::answer::{Answer, Draws, Refusal};
-use crate::model::{nothing_done, read_table, refused, Model, Rule, Table};
+use crate::judge::model::{nothing_done, read_table, refused, Model, Rule, Table};
+use crate::terms::answer::{Answer, Draws, Refusal};
 use std::ops::RangeInclusive;
 
 /// What a text draws, by its records; only some of it is a table.

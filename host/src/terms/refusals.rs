@@ -1,6 +1,6 @@
 //! The outline's table of refusals in words, with those of drawings.
 
-use crate::answer::Refusal;
+use crate::terms::answer::Refusal;
 
 /// What a refusal's place counts, always from 0.
 #[derive(Clone, Copy, Debug, PartialEq, Eq)]

@@ -1,0 +1,6 @@
+//! Makers of cases: bundles, tables and drawings from a seed for the tests, and the bundles that are measured.
+
+pub mod bundles;
+pub mod cases;
+pub mod growth;
+pub mod sketches;

@@ -1,0 +1,127 @@
+//! The table of figures, tests/figures.txt of the repository, whose head says how it is written. What is no line of it panics.
+
+use macaroosh::{Answer, First, Step, ECHO};
+use std::collections::BTreeMap;
+use std::fmt::Debug;
+use std::str::FromStr;
+
+const TEXT: &str = include_str!("../../../tests/figures.txt");
+
+/// A case of the table.
+#[derive(Clone, Debug, Default)]
+pub struct Case {
+    pub name: String,
+    pub bundle: Vec<u8>,
+    /// Whether it has no table, so that the echo table may stand in front of it.
+    pub schedule: bool,
+    /// What the report program writes.
+    pub report: String,
+    /// What a run answers where that is not what the report program writes.
+    calls: Option<Answer>,
+    /// The words that a run leaves.
+    pub words: Option<Vec<u64>>,
+    /// Forms, and the bundle in each.
+    pub to: Vec<(u64, Vec<u8>)>,
+    /// The first step after it.
+    pub first: Option<First>,
+}
+
+impl Case {
+    /// What a run answers.
+    pub fn answer(&self) -> Answer {
+        self.calls.unwrap_or_else(|| {
+            let line = self.report.lines().next().and_then(|line| line.strip_prefix("result "));
+            answer(line.unwrap_or_else(|| panic!("{}: there is no result", self.name)))
+        })
+    }
+
+    /// Bytes in place of the bundle, and each standing table that they are read beside: with a schedule, the echo table, or none
+    /// where it stands in front.
+    pub fn beside<'a>(&self, bytes: &[u8]) -> [(Vec<u8>, &'a [u8]); 2] {
+        let front: &[u8] = if self.schedule { &ECHO } else { &[] };
+        [(bytes.to_vec(), &ECHO), ([front, bytes].concat(), &[])]
+    }
+}
+
+/// All cases.
+pub fn cases() -> Vec<Case> {
+    let mut named = BTreeMap::new();
+    let mut cases: Vec<Case> = Vec::new();
+    for line in TEXT.lines().filter(|line| !line.is_empty() && !line.starts_with('#')) {
+        if let Some(name) = line.strip_prefix('[').and_then(|line| line.strip_suffix(']')) {
+            assert!(cases.iter().all(|case| case.name != name), "two cases are {name}");
+            cases.push(Case { name: name.to_string(), ..Case::default() });
+        } else if let Some((name, text)) = line.split_once(" = ") {
+            named.insert(name, bytes(text, &named));
+        } else {
+            said(cases.last_mut().unwrap_or_else(|| panic!("a line before the first case: {line}")), line, &named);
+        }
+    }
+    cases
+}
+
+/// The case of that name.
+pub fn case(name: &str) -> Case {
+    cases().into_iter().find(|case| case.name == name).unwrap_or_else(|| panic!("there is no case {name}"))
+}
+
+// What a line says of a case.
+fn said(case: &mut Case, line: &str, named: &BTreeMap<&str, Vec<u8>>) {
+    let (word, rest) = line.split_once(' ').unwrap_or((line, ""));
+    match word {
+        "schedule" | "bundle" => {
+            case.schedule = word == "schedule";
+            case.bundle = bytes(rest, named);
+        }
+        "result" | "sent" => case.report += &format!("{line}\n"),
+        "p" => {
+            let (boards, counts) = rest.split_once(' ').unwrap_or_else(|| panic!("boards and counts: {line}"));
+            let (first, last) = boards.split_once("..").unwrap_or((boards, boards));
+            for board in number::<usize>(first)..=number(last) {
+                case.report += &format!("p {board} {counts}\n");
+            }
+        }
+        "words" => case.words = Some(repeated(rest).flat_map(|(times, word)| vec![number(word); times]).collect()),
+        "calls" => case.calls = Some(answer(rest)),
+        "to" => {
+            let (form, text) = rest.split_once(' ').unwrap_or_else(|| panic!("a form and bytes: {line}"));
+            case.to.push((number(form), bytes(text, named)));
+        }
+        "first" if rest == "none" => case.first = Some(Ok(None)),
+        "first" => case.first = Some(Ok(Some(Step::of(numbers(rest))))),
+        _ => panic!("no line of a case: {line}"),
+    }
+}
+
+fn bytes(text: &str, named: &BTreeMap<&str, Vec<u8>>) -> Vec<u8> {
+    repeated(text)
+        .flat_map(|(times, item)| named.get(item).cloned().unwrap_or_else(|| hex(item)).repeat(times))
+        .collect()
+}
+
+fn hex(digits: &str) -> Vec<u8> {
+    let pairs = digits.as_bytes().chunks(2).map(|pair| std::str::from_utf8(pair).ok().filter(|pair| pair.len() == 2));
+    let byte = |pair: Option<&str>| pair.and_then(|pair| u8::from_str_radix(pair, 16).ok());
+    pairs.map(|pair| byte(pair).unwrap_or_else(|| panic!("no bytes: {digits}"))).collect()
+}
+
+// The items of a line, and how often each stands there.
+fn repeated(text: &str) -> impl Iterator<Item = (usize, &str)> {
+    text.split(' ')
+        .filter(|item| !item.is_empty())
+        .map(|item| item.split_once('*').map_or((1, item), |(times, item)| (number(times), item)))
+}
+
+fn number<N: FromStr>(text: &str) -> N {
+    text.parse().unwrap_or_else(|_| panic!("no number: {text}"))
+}
+
+fn numbers<N: FromStr + Debug, const LENGTH: usize>(text: &str) -> [N; LENGTH] {
+    let all: Vec<N> = text.split(' ').map(number).collect();
+    all.try_into().unwrap_or_else(|_| panic!("{LENGTH} numbers: {text}"))
+}
+
+fn answer(text: &str) -> Answer {
+    let [refusal, place, count] = numbers::<u32, 3>(text);
+    Answer { refusal: u8::try_from(refusal).expect("a refusal's number"), place, count }
+}
