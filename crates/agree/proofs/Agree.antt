@@ -1,24 +1,22 @@
--- Theorem 3.4 for a step on words, over any two neighbouring forms: the tagged step does in form j + 1 what the step does in form j, and
--- the step with the lowest source does in form j what its tag does in form j + 1.
+-- Theorem 3.4 for a step on words, over any two neighbouring levels: the tagged step does at level j + 1 what the step does at level j, since the
+-- picture of where that leads is where the tag leads; and a step whose source is in transit and has the tag does at level j what its tag does at
+-- level j + 1, since as many messages are counted.
 use mathlib.Core.Path.{_≡_, refl, sym, ap, ap₂, _∙_, subst⁻¹}
-use mathlib.Core.Bool.{Bool, true, false, not, _&&_, true≢false}
+use mathlib.Core.Bool.{Bool, true, false, true≢false}
 use mathlib.Core.List.{List}
-use Prim.Native.Nat.{ℕ, suc, _+_, _≤_, _<_}
+use Prim.Native.Nat.{ℕ, suc, _≤_, _<_}
 use native.Mathlib.Omega.{arith}
-use native.Mathlib.Decide.{ℕ-discrete}
 use lib.Dec.{eqb}
-use lib.ListN.{length}
 use borrow.Author.Tests.{eq-eqb, ne-eqb}
-use Rattle.senders.specs.Tally.{digit}
 use Rattle.senders.proofs.TallyLaws.{and-made, least-first}
 use Rattle.fault.specs.Fault.{_if_else_}
-use Rattle.paper.specs.Paper.{Design, Step, newly, silent, Hears, Moves}
-use Rattle.paper.specs.Words.{size, state}
-use Rattle.paper.specs.Form.{wide}
-use Rattle.paper.specs.Step.{columnOf, rcvdOf, sentOf, view, countOf, heard, stepped, stepFault}
-use Rattle.paper.proofs.StepLaws.{Arrives, accepted, not-refused, count-heard, length-stepped, step-moves}
-use Rattle.agree.specs.Translation.{tagOf, withSource, tagBy, tagged, lowSender, lowest}
-use Rattle.agree.specs.Picture.{Kept, pictureOf, Pictured}
+use Rattle.paper.specs.Paper.{Design, Conf, Step, newly, noMessage, silent, Kind, silence, message, kindOf, CanHear, added, Moves}
+use Rattle.paper.specs.Words.{state}
+use Rattle.paper.specs.Step.{columnOf, rcvdIn, sentIn, view, countOf, heard, stepped, stepFault}
+use Rattle.paper.proofs.Cases.{yes-no}
+use Rattle.paper.proofs.StepLaws.{kind-silent, kind-message, by-kind, coming-at, Arrives, accepted, not-refused, hears-of, arrives-by, rcvd-heard, length-stepped, step-moves, moves-step, moves-one}
+use Rattle.agree.specs.Translation.{tagOf, withSource, sourceIn, tagBy, tagged, lowSender, lowest}
+use Rattle.agree.specs.Picture.{Remembers, pictureOf, Pictured}
 use Rattle.agree.specs.Laws.{ColumnLaws, Source, PictureLaws}
 use Rattle.agree.specs.Agreement.{StepThere, StepBack}
 use Rattle.agree.proofs.Columns.{column-laws, picture-laws, lowest-source}
@@ -27,29 +25,29 @@ use Rattle.agree.proofs.Sound.{told-fresh, still-sound}
 -- ---- the translations, with a message and without
 module _ (j : ℕ) (d : Design) (s : Step) where
   pub tagged-silent : silent s ≡ true → tagged j d s ≡ s
-  unfolding tagBy _if_else_
-  tagged-silent e = rw e
+  unfolding tagBy
+  tagged-silent e = ap (λ (κ : Kind). withSource s (sourceIn κ (s .source) (tagOf j (d .boards) (s .source)))) (kind-silent s e)
 
   pub tagged-message : silent s ≡ false → tagged j d s ≡ withSource s (tagOf j (d .boards) (s .source))
-  unfolding tagBy _if_else_
-  tagged-message e = rw e
+  unfolding tagBy
+  tagged-message e = ap (λ (κ : Kind). withSource s (sourceIn κ (s .source) (tagOf j (d .boards) (s .source)))) (kind-message s e)
 
   pub lowest-silent : (w : List ℕ) → silent s ≡ true → lowest j d w s ≡ s
-  unfolding lowest _if_else_
-  lowest-silent w e = rw e
+  unfolding lowest
+  lowest-silent w e = ap (λ (κ : Kind). withSource s (sourceIn κ (s .source) (lowSender j d w s))) (kind-silent s e)
 
   pub lowest-message : (w : List ℕ) → silent s ≡ false → lowest j d w s ≡ withSource s (lowSender j d w s)
-  unfolding lowest _if_else_
-  lowest-message w e = rw e
+  unfolding lowest
+  lowest-message w e = ap (λ (κ : Kind). withSource s (sourceIn κ (s .source) (lowSender j d w s))) (kind-message s e)
 
 -- a type of the table is a message, whatever the source
-pub typed : (T : ℕ) (s : Step) (q : ℕ) → T ≤ 255 → s .type < T → silent (withSource s q) ≡ false
-typed T s q k h = rw (ne-eqb (s .type) 255 (omega arith))
+pub typed : (T : ℕ) (s : Step) (q : ℕ) → T ≤ noMessage → s .type < T → silent (withSource s q) ≡ false
+typed T s q k h = rw (ne-eqb (s .type) noMessage (omega arith))
 
--- a step s and the same with the source x, which is the tag of its own where there is a message
-record Pair (j : ℕ) (d : Design) (s : Step) (x : ℕ) : Type 0 where
-  silence : silent (withSource s x) ≡ silent s
-  tag : silent s ≡ false → x ≡ tagOf j (d .boards) (s .source)
+-- the kind of a step one level on
+abbrev tagKind : ℕ → ℕ → Kind → Kind
+tagKind j C silence = silence
+tagKind j C (message m q) = message m (tagOf j C q)
 
 module _ (j : ℕ) (d : Design) where
   abbrev L : PictureLaws j (d .boards) (d .faulty)
@@ -58,140 +56,128 @@ module _ (j : ℕ) (d : Design) where
   abbrev N : ColumnLaws j (d .boards) (d .faulty)
   N = column-laws (d .boards) (d .faulty) j
 
--- ---- the two moves of a pair keep the picture
-module _ (j : ℕ) (d : Design) (K : Kept d) (w v w′ v′ : List ℕ) (X : Pictured j d w v) (s : Step) (x : ℕ) (P : Pair j d s x)
-    (a : Moves d (columnOf j d) s (view j d w) (view j d w′)) (b : Moves d (columnOf (suc j) d) (withSource s x) (view (suc j) d v) (view (suc j) d v′)) where
-  abbrev p : ℕ
-  p = s .board
+-- ---- what board p hears at level j, it hears by its tag at level j + 1
+module _ (j : ℕ) (d : Design) (w v : List ℕ) (X : Pictured j d w v) (p : ℕ) (hp : p < d .boards) where
+  abbrev Fine : Kind → Type 0
+  Fine κ = CanHear d (columnOf j d) κ (rcvdIn j d w p) (sentIn j d w)
 
-  abbrev new : ℕ → Bool
-  new m = newly d (state w p) (state w′ p) m
+  hears-there : (κ : Kind) → Fine κ → CanHear d (columnOf (suc j) d) (tagKind j (d .boards) κ) (rcvdIn (suc j) d v p) (sentIn (suc j) d v)
+  hears-there silence H = tt
+  hears-there (message m q) H =
+      let r = X .rcvds p m hp (H .type) in
+      let o = X .sents m (H .type) in
+      record {
+        type = H .type;
+        source = L j d .below q;
+        transit = (λ i. columnOf (suc j) d .inTransit (tagOf j (d .boards) q) (r i) (o i)) ∙ L j d .there q _ _ (H .source) (X .sound .within p m hp (H .type)) (H .transit);
+      }
 
-  abbrev Shows : ℕ → ℕ → Type 0
-  Shows q m = rcvdOf (suc j) d v′ q m ≡ pictureOf j d (rcvdOf j d w′ q m)
-
-  same-state : (q : ℕ) → q < d .boards → state v′ q ≡ state w′ q
-  same-state q hq = go (ℕ-discrete q p)
+  pictures-heard : (κ : Kind) → Fine κ → (m : ℕ) → m < d .types
+      → pictureOf j d (added (columnOf j d) κ (rcvdIn j d w p) m) ≡ added (columnOf (suc j) d) (tagKind j (d .boards) κ) (rcvdIn (suc j) d v p) m
+  unfolding _if_else_
+  pictures-heard silence H m hm = sym (X .rcvds p m hp hm)
+  pictures-heard (message t q) H m hm = go (eqb t m) refl
     where
-      go : Dec (q ≡ p) → state v′ q ≡ state w′ q
-      go (yes f) = subst⁻¹ (λ (y : ℕ). state v′ y ≡ state w′ y) f (b .local .enters ∙ sym (a .local .enters))
-      go (no f) = b .others-pc q hq f ∙ X .states q hq ∙ sym (a .others-pc q hq f)
+      go : (b : Bool) → eqb t m ≡ b → pictureOf j d (columnOf j d .add q (rcvdIn j d w p m) if b else rcvdIn j d w p m) ≡
+          (columnOf (suc j) d .add (tagOf j (d .boards) q) (rcvdIn (suc j) d v p m) if b else rcvdIn (suc j) d v p m)
+      go true z = L j d .add q _ (H .source) (N j d .fresh q _ _ (coming-at H m z)) ∙ ap (columnOf (suc j) d .add (tagOf j (d .boards) q)) (sym (X .rcvds p m hp hm))
+      go false z = sym (X .rcvds p m hp hm)
 
-  same-new : (m : ℕ) → newly d (state v p) (state v′ p) m ≡ new m
-  same-new m = ap₂ (λ (ℓ ℓ′ : ℕ). newly d ℓ ℓ′ m) (X .states p (a .board)) (same-state p (a .board))
+-- ---- a move at level j is a move of the tag at level j + 1, to the picture
+module _ (j : ℕ) (d : Design) (w v w′ : List ℕ) (X : Pictured j d w v) (s : Step) (x : ℕ) (P : kindOf (withSource s x) ≡ tagKind j (d .boards) (kindOf s))
+    (a : Moves d (columnOf j d) s (view j d w) (view j d w′)) where
+  abbrev seen : Conf (columnOf (suc j) d .Coll)
+  seen = record { pc = state w′; rcvd = λ q m. pictureOf j d (rcvdIn j d w′ q m); sent = λ m. pictureOf j d (sentIn j d w′ m) }
 
-  same-heard : (m : ℕ) → m < d .types → Shows p m
-  same-heard m hm = go (silent s) refl
-    where
-      at : Dec (m ≡ s .type) → (e : silent s ≡ false) → Hears d (columnOf j d) s (view j d w) (view j d w′) → Hears d (columnOf (suc j) d) (withSource s x) (view (suc j) d v) (view (suc j) d v′) → Shows p m
-      at (yes f) e H G =
-          subst⁻¹ (Shows p) f
-          (G .added ∙ ap₂ (columnOf (suc j) d .add) (P .tag e) (X .rcvds p (s .type) (a .board) (H .type))
-          ∙ sym (L j d .add (s .source) _ (H .source) (N j d .fresh (s .source) _ _ (H .transit))) ∙ ap (pictureOf j d) (sym (H .added)))
-      at (no f) e H G = G .others m hm f ∙ X .rcvds p m (a .board) hm ∙ ap (pictureOf j d) (sym (H .others m hm f))
+  same-new : (m : ℕ) → newly d (state w (s .board)) (state w′ (s .board)) m ≡ newly d (state v (s .board)) (state w′ (s .board)) m
+  same-new m = ap (λ (ℓ : ℕ). newly d ℓ (state w′ (s .board)) m) (sym (X .states (s .board) (a .board)))
 
-      go : (t : Bool) → silent s ≡ t → Shows p m
-      go true e = b .hears-nothing (P .silence ∙ e) m hm ∙ X .rcvds p m (a .board) hm ∙ ap (pictureOf j d) (sym (a .hears-nothing e m hm))
-      go false e = at (ℕ-discrete m (s .type)) e (a .hears e) (b .hears (P .silence ∙ e))
+  sent-there : (m : ℕ) → m < d .types → newly d (state w (s .board)) (state w′ (s .board)) m ≡ true
+      → pictureOf j d (sentIn j d w′ m) ≡ columnOf (suc j) d .add (columnOf (suc j) d .own (s .board)) (sentIn (suc j) d v m)
+  sent-there m hm e =
+      let n = told-fresh j d (view j d w) (s .board) (state w′ (s .board)) m (a .board) (X .sound .told m hm) e in
+      ap (pictureOf j d) (a .sends m hm e) ∙ L j d .add _ (sentIn j d w m) (N j d .own (s .board) (a .board)) n
+      ∙ ap₂ (columnOf (suc j) d .add) (L j d .own (s .board) (a .board)) (sym (X .sents m hm))
 
-  same-rcvd : (q m : ℕ) → q < d .boards → m < d .types → Shows q m
-  same-rcvd q m hq hm = go (ℕ-discrete q p)
-    where
-      go : Dec (q ≡ p) → Shows q m
-      go (yes f) = subst⁻¹ (λ (y : ℕ). Shows y m) f (same-heard m hm)
-      go (no f) = b .others-rcvd q m hq hm f ∙ X .rcvds q m hq hm ∙ ap (pictureOf j d) (sym (a .others-rcvd q m hq hm f))
-
-  same-sent : (m : ℕ) → m < d .types → sentOf (suc j) d v′ m ≡ pictureOf j d (sentOf j d w′ m)
-  same-sent m hm = go (new m) refl
-    where
-      go : (t : Bool) → new m ≡ t → sentOf (suc j) d v′ m ≡ pictureOf j d (sentOf j d w′ m)
-      go false e = b .keeps m hm (same-new m ∙ e) ∙ X .sents m hm ∙ ap (pictureOf j d) (sym (a .keeps m hm e))
-      go true e =
-          let o = columnOf j d .own p in
-          let n = told-fresh j d (view j d w) p (state w′ p) m (a .board) (X .sound .told m hm) e in
-          b .sends m hm (same-new m ∙ e) ∙ ap₂ (columnOf (suc j) d .add) (sym (L j d .own p (a .board))) (X .sents m hm)
-          ∙ sym (L j d .add o (sentOf j d w m) (N j d .own p (a .board)) n) ∙ ap (pictureOf j d) (sym (a .sends m hm e))
-
-  still-pictured : length w′ ≡ size (d .boards) (d .types) (wide j) → length v′ ≡ size (d .boards) (d .types) (wide (suc j)) → Pictured j d w′ v′
-  still-pictured lw lv = record {
-    fine-long = lw;
-    coarse-long = lv;
-    states = same-state;
-    rcvds = same-rcvd;
-    sents = same-sent;
-    sound = still-sound j d K s (view j d w) (view j d w′) a (X .sound);
+  tag-moves : Moves d (columnOf (suc j) d) (withSource s x) (view (suc j) d v) seen
+  tag-moves = record {
+    board = a .board;
+    local = record {
+      rule = a .local .rule;
+      leaves = X .states (s .board) (a .board) ∙ a .local .leaves;
+      enters = a .local .enters;
+      met = λ m hm. ap (d .met (s .rule) m) (L j d .card (rcvdIn j d w′ (s .board) m)) ∙ a .local .met m hm;
+    };
+    hears = subst⁻¹ (λ (κ : Kind). CanHear d (columnOf (suc j) d) κ (rcvdIn (suc j) d v (s .board)) (sentIn (suc j) d v)) P
+        (hears-there j d w v X (s .board) (a .board) (kindOf s) (a .hears));
+    receives = λ m hm.
+        ap (pictureOf j d) (a .receives m hm) ∙ pictures-heard j d w v X (s .board) (a .board) (kindOf s) (a .hears) m hm
+        ∙ ap (λ (κ : Kind). added (columnOf (suc j) d) κ (rcvdIn (suc j) d v (s .board)) m) (sym P);
+    sends = λ m hm e. sent-there m hm (same-new m ∙ e);
+    keeps = λ m hm e. ap (pictureOf j d) (a .keeps m hm (same-new m ∙ e)) ∙ sym (X .sents m hm);
+    others-pc = λ q hq o. a .others-pc q hq o ∙ sym (X .states q hq);
+    others-rcvd = λ q m hq hm o. ap (pictureOf j d) (a .others-rcvd q m hq hm o) ∙ sym (X .rcvds q m hq hm);
   }
 
 -- ---- both steps of a pair are accepted, and lead to a picture
-record Agrees (j : ℕ) (d : Design) (w v : List ℕ) (s t : Step) : Type 0 where
-  fine : stepFault j d w s ≡ 0
-  coarse : stepFault (suc j) d v t ≡ 0
-  pictured : Pictured j d (stepped j d w s) (stepped (suc j) d v t)
+pub record Agrees (j : ℕ) (d : Design) (w v : List ℕ) (s t : Step) : Type 0 where
+  pub fine : stepFault j d w s ≡ 0
+  pub coarse : stepFault (suc j) d v t ≡ 0
+  pub pictured : Pictured j d (stepped j d w s) (stepped (suc j) d v t)
 
-module _ (j : ℕ) (d : Design) (K : Kept d) (w v : List ℕ) (X : Pictured j d w v) where
-  module _ (s : Step) (x : ℕ) (P : Pair j d s x) where
+module _ (j : ℕ) (d : Design) (K : Remembers d) (w v : List ℕ) (X : Pictured j d w v) where
+  module _ (s : Step) (x : ℕ) (P : kindOf (withSource s x) ≡ tagKind j (d .boards) (kindOf s)) where
     abbrev t : Step
     t = withSource s x
 
-    same-counts : Arrives j d w s → Arrives (suc j) d v t → (m : ℕ) → m < d .types → countOf (suc j) d (heard (suc j) d v t) (s .board) m ≡ countOf j d (heard j d w s) (s .board) m
-    same-counts A B m hm =
-        count-heard (suc j) d v t (X .coarse-long) B m hm
-        ∙ ap₂ (λ (n : ℕ) (b : Bool). n + digit (not b && eqb (s .type) m)) (ap (columnOf (suc j) d .card) (X .rcvds (s .board) m (A .board) hm) ∙ L j d .card (rcvdOf j d w (s .board) m)) (P .silence)
-        ∙ sym (count-heard j d w s (X .fine-long) A m hm)
-
-    agrees : stepFault j d w s ≡ 0 → stepFault (suc j) d v t ≡ 0 → Agrees j d w v s t
-    agrees g h = record {
-      fine = g;
-      coarse = h;
-      pictured = still-pictured j d K w v (stepped j d w s) (stepped (suc j) d v t) X s x P (step-moves j d w s (X .fine-long) g) (step-moves (suc j) d v t (X .coarse-long) h)
-          (length-stepped j d w s ∙ X .fine-long) (length-stepped (suc j) d v t ∙ X .coarse-long);
-    }
-
-    tag-arrives : Arrives j d w s → Arrives (suc j) d v t
-    tag-arrives A = record {
-      board = A .board;
-      rule = A .rule;
-      leaves = X .states (s .board) (A .board) ∙ A .leaves;
-      named = λ e. let z = sym (P .silence) ∙ e in record { type = A .named z .type; source = rw (P .tag z) (L j d .below (s .source)) };
-      transit = λ e.
-          let z = sym (P .silence) ∙ e in
-          let M = A .named z in
-          let r = X .rcvds (s .board) (s .type) (A .board) (M .type) in
-          let o = X .sents (s .type) (M .type) in
-          (λ i. columnOf (suc j) d .inTransit (P .tag z i) (r i) (o i))
-          ∙ L j d .there (s .source) _ _ (M .source) (X .sound .within (s .board) (s .type) (A .board) (M .type)) (A .transit z);
-    }
-
     pair-there : stepFault j d w s ≡ 0 → Agrees j d w v s t
     pair-there g =
-        let A = accepted j d w s g in
-        let B = tag-arrives (A .arrives) in
-        agrees g (not-refused (suc j) d v t (record { arrives = B; met = λ m hm. ap (d .met (s .rule) m) (same-counts (A .arrives) B m hm) ∙ A .met m hm }))
+        let a = step-moves j d w s (X .fine-long) g in
+        let b = tag-moves j d w v (stepped j d w s) X s x P a in
+        let h = moves-step (suc j) d v t (X .coarse-long) _ b in
+        let S = moves-one d (columnOf (suc j) d) t (view (suc j) d v) (view (suc j) d (stepped (suc j) d v t)) _ (step-moves (suc j) d v t (X .coarse-long) h) b in
+        record {
+          fine = g;
+          coarse = h;
+          pictured = record {
+            fine-long = length-stepped j d w s ∙ X .fine-long;
+            coarse-long = length-stepped (suc j) d v t ∙ X .coarse-long;
+            states = S .pc;
+            rcvds = S .rcvd;
+            sents = S .sent;
+            sound = still-sound j d K s (view j d w) (view j d (stepped j d w s)) a (X .sound);
+          };
+        }
 
-    pair-back : Arrives j d w s → stepFault (suc j) d v t ≡ 0 → Agrees j d w v s t
-    pair-back A h =
+    -- what it hears is in transit: as many messages are counted
+    pair-back : CanHear d (columnOf j d) (kindOf s) (rcvdIn j d w (s .board)) (sentIn j d w) → stepFault (suc j) d v t ≡ 0 → Agrees j d w v s t
+    pair-back H h =
         let B = accepted (suc j) d v t h in
-        agrees (not-refused j d w s (record { arrives = A; met = λ m hm. ap (d .met (s .rule) m) (sym (same-counts A (B .arrives) m hm)) ∙ B .met m hm })) h
+        let b = B .arrives .board in
+        let A = arrives-by j d w s b (B .arrives .rule) (sym (X .states (s .board) b) ∙ B .arrives .leaves) H in
+        let same : (m : ℕ) → m < d .types → countOf j d (heard j d w s) (s .board) m ≡ countOf (suc j) d (heard (suc j) d v t) (s .board) m = λ m hm.
+        ap (columnOf j d .card) (rcvd-heard j d w s (X .fine-long) A m hm) ∙ sym (L j d .card _)
+        ∙ ap (columnOf (suc j) d .card) (pictures-heard j d w v X (s .board) b (kindOf s) H m hm ∙ ap (λ (κ : Kind). added (columnOf (suc j) d) κ (rcvdIn (suc j) d v (s .board)) m) (sym P)
+        ∙ sym (rcvd-heard (suc j) d v t (X .coarse-long) (B .arrives) m hm)) in
+        pair-there (not-refused j d w s (record { arrives = A; met = λ m hm. ap (d .met (s .rule) m) (same m hm) ∙ B .met m hm }))
 
   module _ (s : Step) where
-    pair-silent : silent s ≡ true → Pair j d s (s .source)
-    pair-silent e = record { silence = refl; tag = λ z. absurd (true≢false (sym e ∙ z)) }
+    -- ---- to the coarser level
+    tag-kind : CanHear d (columnOf j d) (kindOf s) (rcvdIn j d w (s .board)) (sentIn j d w) → kindOf (tagged j d s) ≡ tagKind j (d .boards) (kindOf s)
+    unfolding tagBy
+    tag-kind =
+        let q = tagOf j (d .boards) (s .source) in
+        by-kind (λ (κ : Kind). CanHear d (columnOf j d) κ (rcvdIn j d w (s .board)) (sentIn j d w) → kindOf (withSource s (sourceIn κ (s .source) q)) ≡ tagKind j (d .boards) κ) s
+        (λ e H. kind-silent s e) (λ e H. kind-message (withSource s q) (typed (d .types) s q (K .few) (H .type)))
 
-    -- ---- to the coarser form
     pub forward : stepFault j d w s ≡ 0 → StepThere j d w v s
-    forward h = let A = go (silent s) refl in record { accepted = A .coarse; pictured = A .pictured }
-      where
-        go : (b : Bool) → silent s ≡ b → Agrees j d w v s (tagged j d s)
-        go true e = subst⁻¹ (Agrees j d w v s) (tagged-silent j d s e) (pair-there s (s .source) (pair-silent e) h)
-        go false e =
-            subst⁻¹ (Agrees j d w v s) (tagged-message j d s e)
-            (pair-there s (tagOf j (d .boards) (s .source)) (record {
-              silence = typed (d .types) s (tagOf j (d .boards) (s .source)) (K .few) (accepted j d w s h .arrives .named e .type) ∙ sym e;
-              tag = λ z. refl;
-            }) h)
+    unfolding tagBy
+    forward h =
+        let A = pair-there s (tagged j d s .source) (tag-kind (hears-of j d w s (accepted j d w s h .arrives))) h in
+        record { accepted = A .coarse; pictured = A .pictured }
 
-    -- ---- to the finer form
-    pub low-is : Arrives (suc j) d v s → silent s ≡ false → Source j (d .boards) (d .faulty) (s .source) (rcvdOf j d w (s .board) (s .type)) (sentOf j d w (s .type)) (lowSender j d w s)
+    -- ---- to the finer level
+    pub low-is : Arrives (suc j) d v s → silent s ≡ false → Source j (d .boards) (d .faulty) (s .source) (rcvdIn j d w (s .board) (s .type)) (sentIn j d w (s .type)) (lowSender j d w s)
     unfolding lowSender
     low-is B e =
         let M = B .named e in
@@ -200,49 +186,39 @@ module _ (j : ℕ) (d : Design) (K : Kept d) (w v : List ℕ) (X : Pictured j d 
         lowest-source j (d .boards) (d .faulty) (s .source) _ _ (M .source) (X .sound .within (s .board) (s .type) (B .board) (M .type)) (sym (λ i. columnOf (suc j) d .inTransit (s .source) (r i) (o i)) ∙ B .transit e)
 
     -- nobody below it has that tag and is in transit
-    pub low-first : (q : ℕ) → q < lowSender j d w s → tagOf j (d .boards) q ≡ s .source → columnOf j d .inTransit q (rcvdOf j d w (s .board) (s .type)) (sentOf j d w (s .type)) ≡ true → ⊥
+    pub low-first : (q : ℕ) → q < lowSender j d w s → tagOf j (d .boards) q ≡ s .source → columnOf j d .inTransit q (rcvdIn j d w (s .board) (s .type)) (sentIn j d w (s .type)) ≡ true → ⊥
     unfolding lowSender
     low-first q h e t = true≢false (sym (and-made _ _ (eq-eqb _ _ e) t) ∙ least-first (columnOf j d .sources) _ q h)
 
-    record Lowered (l : Step) : Type 0 where
-      agree : Agrees j d w v l s
-      trip : tagged j d l ≡ s
+    pub record Lowered (l : Step) : Type 0 where
+      pub agree : Agrees j d w v l s
+      pub trip : tagged j d l ≡ s
 
-    low-silent : stepFault (suc j) d v s ≡ 0 → silent s ≡ true → Lowered s
+    pub low-silent : stepFault (suc j) d v s ≡ 0 → silent s ≡ true → Lowered s
     low-silent h e =
-        let B = accepted (suc j) d v s h .arrives in
+        let z = kind-silent s e in
         record {
-          agree = pair-back s (s .source) (pair-silent e) (record {
-            board = B .board;
-            rule = B .rule;
-            leaves = sym (X .states (s .board) (B .board)) ∙ B .leaves;
-            named = λ z. absurd (true≢false (sym e ∙ z));
-            transit = λ z. absurd (true≢false (sym e ∙ z));
-          }) h;
+          agree = pair-back s (s .source) (z ∙ ap (tagKind j (d .boards)) (sym z)) (subst⁻¹ (Fine j d w v X (s .board) (accepted (suc j) d v s h .arrives .board)) z tt) h;
           trip = tagged-silent j d s e;
         }
 
-    low-message : stepFault (suc j) d v s ≡ 0 → silent s ≡ false → Lowered (withSource s (lowSender j d w s))
-    low-message h e =
+    -- any source in transit that has the tag will do
+    pub by-source : stepFault (suc j) d v s ≡ 0 → silent s ≡ false → (q : ℕ) → Source j (d .boards) (d .faulty) (s .source) (rcvdIn j d w (s .board) (s .type)) (sentIn j d w (s .type)) q
+        → Lowered (withSource s q)
+    by-source h e q S =
         let B = accepted (suc j) d v s h .arrives in
-        let q = lowSender j d w s in
-        let l = withSource s q in
-        let S = low-is B e in
         let n = typed (d .types) s q (K .few) (B .named e .type) in
+        let z = kind-message (withSource s q) n in
         record {
-          agree = pair-back l (s .source) (record { silence = e ∙ sym n; tag = λ z. sym (S .tags) }) (record {
-            board = B .board;
-            rule = B .rule;
-            leaves = sym (X .states (s .board) (B .board)) ∙ B .leaves;
-            named = λ z. record { type = B .named e .type; source = S .below };
-            transit = λ z. S .moving;
-          }) h;
-          trip = tagged-message j d l n ∙ ap (withSource s) (S .tags);
+          agree = pair-back (withSource s q) (s .source) (kind-message s e ∙ ap (message (s .type)) (sym (S .tags)) ∙ ap (tagKind j (d .boards)) (sym z))
+              (subst⁻¹ (Fine j d w v X (s .board) (B .board)) z (record { type = B .named e .type; source = S .below; transit = S .moving })) h;
+          trip = tagged-message j d (withSource s q) n ∙ ap (withSource s) (S .tags);
         }
 
+    pub low-message : stepFault (suc j) d v s ≡ 0 → silent s ≡ false → Lowered (withSource s (lowSender j d w s))
+    low-message h e = by-source h e (lowSender j d w s) (low-is (accepted (suc j) d v s h .arrives) e)
+
     pub backward : stepFault (suc j) d v s ≡ 0 → StepBack j d w v s
-    backward h = let Z = go (silent s) refl in record { accepted = Z .agree .fine; trip = Z .trip; pictured = Z .agree .pictured }
-      where
-        go : (b : Bool) → silent s ≡ b → Lowered (lowest j d w s)
-        go true e = subst⁻¹ Lowered (lowest-silent j d s w e) (low-silent h e)
-        go false e = subst⁻¹ Lowered (lowest-message j d s w e) (low-message h e)
+    backward h =
+        let Z = yes-no (silent s) (λ e. subst⁻¹ Lowered (lowest-silent j d s w e) (low-silent h e)) (λ e. subst⁻¹ Lowered (lowest-message j d s w e) (low-message h e)) in
+        record { accepted = Z .agree .fine; trip = Z .trip; pictured = Z .agree .pictured }

@@ -1,25 +1,25 @@
 -- The laws of each column and of each pair of neighbours. From sets to counts: what the counts of a set become when a sender is added,
--- and who is in transit in one form and in the other. From two counts to their sum the same, by arithmetic.
+-- and who is in transit at one level and at the other. From two counts to their sum the same, by arithmetic.
 use mathlib.Core.Path.{_≡_, refl, sym, ap, _∙_, subst}
-use mathlib.Core.Bool.{Bool, true, false, not, _&&_, or-false, and-true}
+use mathlib.Core.Bool.{Bool, true, false, not, _&&_, or-false}
 use Prim.Native.Nat.{ℕ, zero, suc, _+_, _-_, _≤_, _<_}
 use native.Mathlib.Omega.{arith}
-use native.Mathlib.Decide.{ℕ-discrete, decLt}
+use native.Mathlib.Decide.{decLt}
 use lib.Dec.{eqb}
-use borrow.Author.Tests.{ltb-true, eqb-true, lt-ltb, le-ltb, le-leb, lt-leb, eq-eqb, not-true}
+use borrow.Author.Tests.{ltb-true, ltb-false, eqb-true, lt-ltb, le-ltb, le-leb, lt-leb, eq-eqb}
 use Rattle.senders.specs.Tally.{count, least}
 use Rattle.senders.specs.Set.{mem, insert, missing, correctCount, faultyCount}
 use Rattle.senders.proofs.TallyLaws.{and-both, and-made, count-at-most, count-le, count-gap, least-is}
 use Rattle.senders.proofs.SetLaws.{set-laws, count-laws}
 use Rattle.fault.specs.Fault.{_if_else_}
+use Rattle.fault.proofs.FaultLaws.{if-keeps}
 use Rattle.fault.specs.Tests.{_below_}
 use Rattle.paper.specs.Paper.{Counts, addTag, passing, counting, plain, column}
+use Rattle.paper.proofs.Cases.{same-or}
+use Rattle.paper.proofs.FormLaws.{counts, transit-new}
 use Rattle.agree.specs.Translation.{tagOf}
 use Rattle.agree.specs.Picture.{picture, Within}
-use Rattle.agree.specs.Laws.{Fresh, ColumnLaws, Source, PictureLaws}
-
-counts : {a b c e : ℕ} → a ≡ c → b ≡ e → _≡_ {A = Counts} (record { correct = a; faulty = b }) (record { correct = c; faulty = e })
-counts p q = λ i. record { correct = p i; faulty = q i }
+use Rattle.agree.specs.Laws.{ColumnLaws, Source, PictureLaws}
 
 count-all : (k : ℕ) → count k (λ i. true) ≡ k
 unfolding count
@@ -40,18 +40,12 @@ unfolding tagOf
 tag-only j C q = refl
 
 tag-class : (C q : ℕ) → tagOf 0 C q < 2
-tag-class C q = go (decLt q C)
-  where
-    go : Dec (q < C) → tagOf 0 C q < 2
-    go (yes h) = rw (tag-correct C q h) (omega arith)
-    go (no h) = rw (tag-faulty C q (omega arith)) (omega arith)
+unfolding tagOf
+tag-class C q = if-keeps (λ (x : ℕ). x < 2) 0 (q below C) 1 (λ e. omega arith) (λ e. omega arith)
 
 tag-grows : (C q r : ℕ) → q ≤ r → tagOf 0 C q ≤ tagOf 0 C r
-tag-grows C q r h = go (decLt q C)
-  where
-    go : Dec (q < C) → tagOf 0 C q ≤ tagOf 0 C r
-    go (yes l) = rw (tag-correct C q l) (omega arith)
-    go (no l) = rw (tag-faulty C q (omega arith), tag-faulty C r (omega arith)) (omega arith)
+unfolding tagOf
+tag-grows C q r h = if-keeps (λ (x : ℕ). x ≤ tagOf 0 C r) 0 (q below C) 1 (λ e. omega arith) (λ e. omega (arith, tag-faulty C r (omega (arith, ltb-false q C e))))
 
 -- ---- in transit, in message form
 module _ (C f q M S : ℕ) where
@@ -61,19 +55,12 @@ module _ (C f q M S : ℕ) where
   pub transit-faulty : C ≤ q → passing C f .inTransit q M S ≡ not (mem M q)
   transit-faulty h = rw (le-ltb q C h, le-leb C q h)
 
-  transit-new : passing C f .inTransit q M S ≡ true → mem M q ≡ false
-  transit-new t = go (decLt q C)
-    where
-      go : Dec (q < C) → mem M q ≡ false
-      go (yes h) = not-true (mem M q) (and-both (mem S q) (not (mem M q)) (sym (transit-correct h) ∙ t) .1)
-      go (no h) = not-true (mem M q) (sym (transit-faulty (omega arith)) ∙ t)
-
   transit-sent : q < C → passing C f .inTransit q M S ≡ true → mem S q ≡ true
   transit-sent h t = and-both (mem S q) (not (mem M q)) (sym (transit-correct h) ∙ t) .0
 
 -- ---- in transit, by count
 -- a tag in transit leaves room for one more of its count
-room-correct : (C f : ℕ) (c e : Counts) → counting C f .inTransit 0 c e ≡ true → c .correct < e .correct
+pub room-correct : (C f : ℕ) (c e : Counts) → counting C f .inTransit 0 c e ≡ true → c .correct < e .correct
 room-correct C f c e t = ltb-true _ _ (rw or-false at t)
 
 room-faulty : (C f : ℕ) (c e : Counts) → counting C f .inTransit 1 c e ≡ true → c .faulty < f
@@ -88,21 +75,16 @@ module _ (C f : ℕ) where
   set-hear q M S h t W = (was-sent, known)
     where
       was-sent : (i : ℕ) → i < C → mem (insert q M) i ≡ true → mem S i ≡ true
-      was-sent i l e = go (ℕ-discrete i q)
-        where
-          go : Dec (i ≡ q) → mem S i ≡ true
-          go (yes z) = rw z (transit-sent C f q M S (rw z at l) t)
-          go (no z) = W .0 i l (sym (set-laws .insert-other M q i z) ∙ e)
+      was-sent i l =
+          same-or (λ (x : ℕ). x < C → mem (insert q M) x ≡ true → mem S x ≡ true) q i (λ k e. transit-sent C f q M S k t)
+          (λ o k e. W .0 i k (sym (set-laws .insert-other M q i o) ∙ e)) l
 
       known : (i : ℕ) → C + f ≤ i → mem (insert q M) i ≡ false
       known i l = set-laws .insert-other M q i (omega arith) ∙ W .1 i l
 
   set-tell : (p M S : ℕ) → Within 0 C f M S → Within 0 C f M (insert p S)
-  set-tell p M S W = (λ i l e. go i l e (ℕ-discrete i p), W .1)
-    where
-      go : (i : ℕ) → i < C → mem M i ≡ true → Dec (i ≡ p) → mem (insert p S) i ≡ true
-      go i l e (yes z) = rw z (set-laws .insert-same S p)
-      go i l e (no z) = set-laws .insert-other S p i z ∙ W .0 i l e
+  set-tell p M S W =
+      (λ i l e. same-or (λ (x : ℕ). mem (insert p S) x ≡ true) p i (set-laws .insert-same S p) (λ o. set-laws .insert-other S p i o ∙ W .0 i l e), W .1)
 
   count-hear : (q : ℕ) (c e : Counts) → q < 2 → counting C f .inTransit q c e ≡ true → Within 1 C f c e → Within 1 C f (addTag q c) e
   count-hear zero c e h t W = (room-correct C f c e t, W .1, W .2)

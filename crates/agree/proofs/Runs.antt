@@ -1,22 +1,23 @@
--- The agreement of neighbouring forms for schedules: the picture, the start, and the words after each number of steps; and from there
--- that of all forms.
-use mathlib.Core.Path.{_≡_, refl, sym, ap, ap₂, _∙_, subst⁻¹}
+-- The agreement of neighbouring levels for schedules: the picture, the start, and, since each step follows (proofs/Agree.antt), the words after each
+-- number of steps; and from there that of all levels, a level further up or down at a time.
+use mathlib.Core.Path.{_≡_, sym, ap, ap₂, _∙_, subst, subst⁻¹}
 use mathlib.Core.Bool.{false}
-use mathlib.Core.List.{List, [], _∷_, map}
+use mathlib.Core.List.{List, map}
 use Prim.Native.Nat.{ℕ, zero, suc, _+_, _-_, _≤_, _<_}
-use native.Mathlib.Decide.{ℕ-discrete, decLt}
+use native.Mathlib.Decide.{decLt}
 use native.Mathlib.Omega.{arith}
 use lib.ListN.{length, getD}
 use Rattle.paper.specs.Paper.{Design, Step}
 use Rattle.paper.specs.Words.{state, start}
 use Rattle.paper.specs.Form.{wide}
-use Rattle.paper.specs.Step.{columnOf, rcvdOf, sentOf, view, stepFault, stepped}
-use Rattle.paper.specs.Run.{Ran, run, after}
+use Rattle.paper.specs.Step.{columnOf, rcvdIn, sentIn, view, stepFault, stepped}
+use Rattle.paper.specs.Machine.{Follows}
+use Rattle.paper.specs.Run.{machineOf, run, after}
 use Rattle.paper.proofs.WordLaws.{start-low, length-start, cell-start, sent-start, same-words}
 use Rattle.paper.proofs.FormLaws.{coll-inj, shown-inj, coll-init, shown-init}
-use Rattle.paper.proofs.RunLaws.{run-goes, run-stops, after-goes}
+use Rattle.paper.proofs.MachineLaws.{follow, follow-trip, follow-map}
 use Rattle.agree.specs.Translation.{tagBy, tagged, lowest, lowAll, coarser, finer, moved}
-use Rattle.agree.specs.Picture.{Kept, pictureOf, Sound, Pictured}
+use Rattle.agree.specs.Picture.{Remembers, pictureOf, Sound, Pictured}
 use Rattle.agree.specs.Agreement.{OnePicture, RunThere, RunBack, InAllForms}
 use Rattle.agree.proofs.Columns.{picture-laws}
 use Rattle.agree.proofs.Sound.{start-sound}
@@ -37,10 +38,10 @@ module _ (d : Design) (starts : List ℕ) (l : length starts ≡ d .boards) wher
   unfolding state
   state-start k p h = start-low (d .boards) (d .types) (wide k) starts l p h
 
-  none-received : (k p m : ℕ) → rcvdOf k d (begin k) p m ≡ columnOf k d .init
+  pub none-received : (k p m : ℕ) → rcvdIn k d (begin k) p m ≡ columnOf k d .init
   none-received k p m = coll-init k (d .boards) (d .faulty) _ (cell-start (d .boards) (d .types) (wide k) starts l p m)
 
-  none-sent : (k m : ℕ) → sentOf k d (begin k) m ≡ columnOf k d .init
+  pub none-sent : (k m : ℕ) → sentIn k d (begin k) m ≡ columnOf k d .init
   none-sent k m = shown-init k (d .boards) (d .faulty) _ (sent-start (d .boards) (d .types) (wide k) starts l m)
 
   module _ (quiet : (p m : ℕ) → p < d .boards → m < d .types → d .hasSent (getD starts p 0) m ≡ false) where
@@ -61,70 +62,34 @@ module _ (d : Design) (starts : List ℕ) (l : length starts ≡ d .boards) wher
           sound = sound-start j;
         }
 
--- ---- a run that is not refused, step by step
-module _ (k : ℕ) (d : Design) (w : List ℕ) (s : Step) (ss : List Step) where
-  record Goes : Type 0 where
-    first : stepFault k d w s ≡ 0
-    rest : run k d (stepped k d w s) ss .refusal ≡ 0
+-- ---- schedules, of neighbouring levels: each step follows, so the schedule does
+module _ (j : ℕ) (d : Design) (K : Remembers d) where
+  step-there : (w v : List ℕ) (s : Step) → Pictured j d w v → stepFault j d w s ≡ 0 → Follows (machineOf j d) (machineOf (suc j) d) (λ u t. tagged j d t) (Pictured j d) w v s
+  step-there w v s X h = let S = forward j d K w v X s h in record { accepted = S .accepted; related = S .pictured }
 
-  goes : run k d w (s ∷ ss) .refusal ≡ 0 → Goes
-  goes h = go (ℕ-discrete (stepFault k d w s) 0)
-    where
-      go : Dec (stepFault k d w s ≡ 0) → Goes
-      go (yes z) = record { first = z; rest = sym (ap (λ (r : Ran). r .refusal) (run-goes k d w s ss z)) ∙ h }
-      go (no n) = absurd (n (sym (ap (λ (r : Ran). r .refusal) (run-stops k d w s ss n)) ∙ h))
-
-  goes-made : stepFault k d w s ≡ 0 → run k d (stepped k d w s) ss .refusal ≡ 0 → run k d w (s ∷ ss) .refusal ≡ 0
-  goes-made z h = ap (λ (r : Ran). r .refusal) (run-goes k d w s ss z) ∙ h
-
--- ---- schedules, of neighbouring forms
-module _ (j : ℕ) (d : Design) (K : Kept d) where
-  -- the words after each number of steps, from those after the first
-  pictured-on : (w v : List ℕ) (s t : Step) (ss ts : List Step) → Pictured j d w v → stepFault j d w s ≡ 0 → stepFault (suc j) d v t ≡ 0
-      → ((i : ℕ) → Pictured j d (after j d (stepped j d w s) ss i) (after (suc j) d (stepped (suc j) d v t) ts i))
-      → (i : ℕ) → Pictured j d (after j d w (s ∷ ss) i) (after (suc j) d v (t ∷ ts) i)
-  unfolding run
-  pictured-on w v s t ss ts X a b ih zero = X
-  pictured-on w v s t ss ts X a b ih (suc i) = rw (after-goes j d w s ss a i, after-goes (suc j) d v t ts b i) (ih i)
-
-  pictured-none : (w v : List ℕ) → Pictured j d w v → (i : ℕ) → Pictured j d (after j d w [] i) (after (suc j) d v [] i)
-  unfolding run
-  pictured-none w v X zero = X
-  pictured-none w v X (suc i) = X
+  step-back : (v w : List ℕ) (s : Step) → Pictured j d w v → stepFault (suc j) d v s ≡ 0 → Follows (machineOf (suc j) d) (machineOf j d) (lowest j d) (λ x y. Pictured j d y x) v w s
+  step-back v w s X h = let S = backward j d K w v X s h in record { accepted = S .accepted; related = S .pictured }
 
   pub forward-run : (w v : List ℕ) (ss : List Step) → Pictured j d w v → run j d w ss .refusal ≡ 0 → RunThere j d w v ss
-  unfolding run
-  forward-run w v [] X h = record { accepted = refl; pictured = pictured-none w v X }
-  forward-run w v (s ∷ ss) X h =
-      let g = goes j d w s ss h in
-      let S = forward j d K w v X s (g .first) in
-      let t = tagged j d s in
-      let R = forward-run (stepped j d w s) (stepped (suc j) d v t) ss (S .pictured) (g .rest) in
+  forward-run w v ss X h =
+      let F = follow _ _ _ _ step-there w v ss X h in
+      let e = follow-map (stepped (suc j) d) (tagged j d) v ss in
       record {
-        accepted = goes-made (suc j) d v t (map (tagged j d) ss) (S .accepted) (R .accepted);
-        pictured = pictured-on w v s t ss (map (tagged j d) ss) X (g .first) (S .accepted) (R .pictured);
+        accepted = ap (λ (ts : List Step). run (suc j) d v ts .refusal) (sym e) ∙ F .accepted;
+        pictured = λ i. subst (λ (ts : List Step). Pictured j d (after j d w ss i) (after (suc j) d v ts i)) e (F .related i);
       }
 
   pub backward-run : (w v : List ℕ) (ss : List Step) → Pictured j d w v → run (suc j) d v ss .refusal ≡ 0 → RunBack j d w v ss
-  unfolding run lowAll
-  backward-run w v [] X h = record { accepted = refl; trip = refl; pictured = pictured-none w v X }
-  backward-run w v (s ∷ ss) X h =
-      let g = goes (suc j) d v s ss h in
-      let S = backward j d K w v X s (g .first) in
-      let l = lowest j d w s in
-      let R = backward-run (stepped j d w l) (stepped (suc j) d v s) ss (S .pictured) (g .rest) in
-      record {
-        accepted = goes-made j d w l (lowAll j d (stepped j d w l) ss) (S .accepted) (R .accepted);
-        trip = ap₂ (λ (x : Step) (xs : List Step). x ∷ xs) (S .trip) (R .trip);
-        pictured = pictured-on w v l s (lowAll j d (stepped j d w l) ss) ss X (S .accepted) (g .first) (R .pictured);
-      }
+  backward-run w v ss X h =
+      let F = follow _ _ _ _ step-back v w ss X h in
+      record { accepted = F .accepted; trip = follow-trip _ _ _ _ step-back (tagged j d) (λ v w s Y z. backward j d K w v Y s z .trip) v w ss X h; pictured = F .related }
 
--- ---- between any two forms: one form further up, and one further down
+-- ---- between any two levels: one level further up, and one further down
 module _ (d : Design) (begin : ℕ → List ℕ) (k : ℕ) (ss : List Step) where
   abbrev in-form : ℕ → List Step
   in-form i = moved k i d begin ss
 
-  -- above its own form a schedule is only tagged, below it only refined
+  -- above its own level a schedule is only tagged, below it only refined
   pub coarser-only : (i : ℕ) → k ≤ i → in-form i ≡ coarser (i - k) k (d .boards) ss
   unfolding moved finer
   coarser-only i h = let e : k - i ≡ 0 = omega arith in rw e
@@ -151,7 +116,7 @@ module _ (d : Design) (begin : ℕ → List ℕ) (k : ℕ) (ss : List Step) wher
       let e : k - i ≡ suc (k - suc i) = omega arith in
       finer-only i (omega arith) ∙ ap (λ (n : ℕ). finer n i d begin ss) e ∙ ap (lowAll i d (begin i)) (sym (finer-only (suc i) h))
 
-module _ (d : Design) (K : Kept d) (begin : ℕ → List ℕ) (B : (j : ℕ) → Pictured j d (begin j) (begin (suc j))) (k : ℕ) (ss : List Step) (h : run k d (begin k) ss .refusal ≡ 0) where
+module _ (d : Design) (K : Remembers d) (begin : ℕ → List ℕ) (B : (j : ℕ) → Pictured j d (begin j) (begin (suc j))) (k : ℕ) (ss : List Step) (h : run k d (begin k) ss .refusal ≡ 0) where
   abbrev new : ℕ → List Step
   new i = moved k i d begin ss
 
@@ -161,7 +126,7 @@ module _ (d : Design) (K : Kept d) (begin : ℕ → List ℕ) (B : (j : ℕ) →
   runs-own : Runs k
   runs-own = ap (λ (x : List Step). run k d (begin k) x .refusal) (moved-own d begin k ss) ∙ h
 
-  -- n forms up, and n forms down
+  -- n levels up, and n levels down
   runs-up : (n i : ℕ) → i ≡ n + k → Runs i
   runs-up zero i e = let z : i ≡ k = omega arith in subst⁻¹ Runs z runs-own
   runs-up (suc n) zero e = absurd (omega arith)
@@ -192,7 +157,7 @@ module _ (d : Design) (K : Kept d) (begin : ℕ → List ℕ) (B : (j : ℕ) →
       go (yes l) = subst⁻¹ (λ (x : List Step). Alike i x (new (suc i))) (moved-down d begin k ss i l) (backward-run i d K (begin i) (begin (suc i)) (new (suc i)) (B i) (runs-all (suc i)) .pictured)
       go (no l) = subst⁻¹ (Alike i (new i)) (moved-up d begin k ss i (omega arith)) (forward-run i d K (begin i) (begin (suc i)) (new i) (B i) (runs-all i) .pictured)
 
-  -- tagged again, what was refined comes back, form by form
+  -- tagged again, what was refined comes back, level by level
   back-up : (i n x : ℕ) → x ≡ n + i → x ≤ k → coarser n i (d .boards) (new i) ≡ new x
   unfolding coarser
   back-up i zero x e l = let z : i ≡ x = omega arith in ap new z

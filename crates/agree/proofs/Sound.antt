@@ -1,18 +1,21 @@
--- What a form keeps, whatever steps are accepted: nothing is received that was not sent, but for f messages of faulty processes; and
+-- What a level keeps, whatever steps are accepted: nothing is received that was not sent, but for f messages of faulty processes; and
 -- in sets, who has sent is told by its control state. From each move, over the columns' laws.
-use mathlib.Core.Path.{_≡_, refl, sym, ap, _∙_, subst, subst⁻¹}
+use mathlib.Core.Path.{_≡_, refl, sym, ap, _∙_, subst⁻¹}
 use mathlib.Core.Logic.{_≢_}
 use mathlib.Core.Bool.{Bool, true, false, not, _&&_, true≢false}
-use Prim.Native.Nat.{ℕ, zero, suc, _+_, _≤_, _<_}
+use Prim.Native.Nat.{ℕ, zero, suc, _<_}
 use native.Mathlib.Omega.{arith}
-use native.Mathlib.Decide.{ℕ-discrete}
+use lib.Dec.{eqb}
 use borrow.Author.Tests.{not-true}
 use Rattle.senders.specs.Set.{mem}
 use Rattle.senders.proofs.TallyLaws.{and-both}
 use Rattle.senders.proofs.SetLaws.{set-laws}
-use Rattle.paper.specs.Paper.{Design, Conf, Step, newly, silent, Hears, Moves}
+use Rattle.fault.proofs.FaultLaws.{if-keeps}
+use Rattle.paper.specs.Paper.{Design, Conf, Step, newly, Kind, silence, message, kindOf, CanHear, added, Moves}
 use Rattle.paper.specs.Step.{columnOf}
-use Rattle.agree.specs.Picture.{Kept, Within, Told, Sound}
+use Rattle.paper.proofs.Cases.{yes-no, same-or}
+use Rattle.paper.proofs.StepLaws.{coming-at}
+use Rattle.agree.specs.Picture.{Remembers, Within, Told, Sound}
 use Rattle.agree.specs.Laws.{Fresh}
 use Rattle.agree.proofs.Columns.{column-laws}
 
@@ -29,11 +32,10 @@ not-new false false k h = refl
 pub told-fresh : (k : ℕ) (d : Design) (σ : Conf (columnOf k d .Coll)) (p ℓ m : ℕ) → p < d .boards → Told k d σ m → newly d (σ .pc p) ℓ m ≡ true
     → Fresh k (d .boards) (d .faulty) (columnOf k d .own p) (σ .sent m)
 told-fresh zero d σ p ℓ m h T e = T .1 p h ∙ new-is (d .hasSent (σ .pc p) m) (d .hasSent ℓ m) e .1
-told-fresh (suc zero) d σ p ℓ m h T e = tt
-told-fresh (suc (suc k)) d σ p ℓ m h T e = tt
+told-fresh (suc k) d σ p ℓ m h T e = tt
 
 -- ---- sets, after a move
-module _ (d : Design) (K : Kept d) (s : Step) (σ σ′ : Conf ℕ) (a : Moves d (columnOf 0 d) s σ σ′) (m : ℕ) (hm : m < d .types) (T : Told 0 d σ m) where
+module _ (d : Design) (K : Remembers d) (s : Step) (σ σ′ : Conf ℕ) (a : Moves d (columnOf 0 d) s σ σ′) (m : ℕ) (hm : m < d .types) (T : Told 0 d σ m) where
   abbrev p : ℕ
   p = s .board
 
@@ -46,85 +48,61 @@ module _ (d : Design) (K : Kept d) (s : Step) (σ σ′ : Conf ℕ) (a : Moves d
       ∙ K .keeps (s .rule) m (a .local .rule) hm (ap (λ (ℓ : ℕ). d .hasSent ℓ m) (sym (a .local .leaves)) ∙ t)
 
   sent-other : (q : ℕ) → q ≢ p → mem (σ′ .sent m) q ≡ mem (σ .sent m) q
-  sent-other q o = go new refl
-    where
-      go : (b : Bool) → new ≡ b → mem (σ′ .sent m) q ≡ mem (σ .sent m) q
-      go false e = ap (λ (S : ℕ). mem S q) (a .keeps m hm e)
-      go true e = ap (λ (S : ℕ). mem S q) (a .sends m hm e) ∙ set-laws .insert-other (σ .sent m) p q o
+  sent-other q o =
+      yes-no new (λ e. ap (λ (S : ℕ). mem S q) (a .sends m hm e) ∙ set-laws .insert-other (σ .sent m) p q o) (λ e. ap (λ (S : ℕ). mem S q) (a .keeps m hm e))
 
   sent-own : mem (σ′ .sent m) p ≡ d .hasSent (σ′ .pc p) m
-  sent-own = go new refl
-    where
-      go : (b : Bool) → new ≡ b → mem (σ′ .sent m) p ≡ d .hasSent (σ′ .pc p) m
-      go true e =
-          ap (λ (S : ℕ). mem S p) (a .sends m hm e) ∙ set-laws .insert-same (σ .sent m) p
-          ∙ sym (new-is (d .hasSent (σ .pc p) m) (d .hasSent (σ′ .pc p) m) e .0)
-      go false e =
-          ap (λ (S : ℕ). mem S p) (a .keeps m hm e) ∙ T .1 p (a .board)
-          ∙ not-new (d .hasSent (σ .pc p) m) (d .hasSent (σ′ .pc p) m) stays e
+  sent-own =
+      yes-no new
+      (λ e. ap (λ (S : ℕ). mem S p) (a .sends m hm e) ∙ set-laws .insert-same (σ .sent m) p ∙ sym (new-is (d .hasSent (σ .pc p) m) (d .hasSent (σ′ .pc p) m) e .0))
+      (λ e. ap (λ (S : ℕ). mem S p) (a .keeps m hm e) ∙ T .1 p (a .board) ∙ not-new (d .hasSent (σ .pc p) m) (d .hasSent (σ′ .pc p) m) stays e)
 
   still-own : (q : ℕ) → q < d .boards → mem (σ′ .sent m) q ≡ d .hasSent (σ′ .pc q) m
-  still-own q hq = go (ℕ-discrete q p)
-    where
-      go : Dec (q ≡ p) → mem (σ′ .sent m) q ≡ d .hasSent (σ′ .pc q) m
-      go (yes f) = subst⁻¹ (λ (x : ℕ). mem (σ′ .sent m) x ≡ d .hasSent (σ′ .pc x) m) f sent-own
-      go (no f) = sent-other q f ∙ T .1 q hq ∙ ap (λ (ℓ : ℕ). d .hasSent ℓ m) (sym (a .others-pc q hq f))
+  still-own q hq =
+      same-or (λ (x : ℕ). mem (σ′ .sent m) x ≡ d .hasSent (σ′ .pc x) m) p q sent-own
+      (λ o. sent-other q o ∙ T .1 q hq ∙ ap (λ (ℓ : ℕ). d .hasSent ℓ m) (sym (a .others-pc q hq o)))
 
   sets-told : Told 0 d σ′ m
   sets-told = (λ q l. sent-other q (omega (arith, a .board)) ∙ T .0 q l, still-own)
 
--- ---- every form, after a move
-module _ (k : ℕ) (d : Design) (K : Kept d) (s : Step) (σ σ′ : Conf (columnOf k d .Coll)) (a : Moves d (columnOf k d) s σ σ′) (X : Sound k d σ) where
-  still-told : (m : ℕ) → m < d .types → Told k d σ′ m
-  still-told m hm = go k σ σ′ a (X .told m hm)
-    where
-      go : (k : ℕ) (σ σ′ : Conf (columnOf k d .Coll)) → Moves d (columnOf k d) s σ σ′ → Told k d σ m → Told k d σ′ m
-      go zero σ σ′ a T = sets-told d K s σ σ′ a m hm T
-      go (suc zero) σ σ′ a T = tt
-      go (suc (suc k)) σ σ′ a T = tt
+still-told : (k : ℕ) (d : Design) (K : Remembers d) (s : Step) (σ σ′ : Conf (columnOf k d .Coll)) → Moves d (columnOf k d) s σ σ′ → (m : ℕ) → m < d .types → Told k d σ m → Told k d σ′ m
+still-told zero d K s σ σ′ a m hm T = sets-told d K s σ σ′ a m hm T
+still-told (suc k) d K s σ σ′ a m hm T = tt
 
+-- ---- every level, after a move
+module _ (k : ℕ) (d : Design) (K : Remembers d) (s : Step) (σ σ′ : Conf (columnOf k d .Coll)) (a : Moves d (columnOf k d) s σ σ′) (X : Sound k d σ) where
   -- received, against what was sent in σ
   abbrev Fits : ℕ → columnOf k d .Coll → Type 0
   Fits m M = Within k (d .boards) (d .faulty) M (σ .sent m)
 
   pub heard-within : (q m : ℕ) → q < d .boards → m < d .types → Within k (d .boards) (d .faulty) (σ′ .rcvd q m) (σ .sent m)
-  heard-within q m hq hm = board (ℕ-discrete q (s .board))
+  heard-within q m hq hm =
+      same-or (λ (x : ℕ). Fits m (σ′ .rcvd x m)) (s .board) q (subst⁻¹ (Fits m) (a .receives m hm) (mine (kindOf s) (a .hears)))
+      (λ o. subst⁻¹ (Fits m) (a .others-rcvd q m hq hm o) (X .within q m hq hm))
     where
-      named : Hears d (columnOf k d) s σ σ′ → Dec (m ≡ s .type) → Fits m (σ′ .rcvd (s .board) m)
-      named H (no f) = subst⁻¹ (Fits m) (H .others m hm f) (X .within (s .board) m (a .board) hm)
-      named H (yes f) =
-          subst⁻¹ (λ (j : ℕ). Fits j (σ′ .rcvd (s .board) j)) f
-          (subst⁻¹ (Fits (s .type)) (H .added)
-          (column-laws (d .boards) (d .faulty) k .hear (s .source) _ _ (H .source) (H .transit) (X .within (s .board) (s .type) (a .board) (H .type))))
-
-      mine : (b : Bool) → silent s ≡ b → Fits m (σ′ .rcvd (s .board) m)
-      mine true e = subst⁻¹ (Fits m) (a .hears-nothing e m hm) (X .within (s .board) m (a .board) hm)
-      mine false e = named (a .hears e) (ℕ-discrete m (s .type))
-
-      board : Dec (q ≡ s .board) → Fits m (σ′ .rcvd q m)
-      board (no f) = subst⁻¹ (Fits m) (a .others-rcvd q m hq hm f) (X .within q m hq hm)
-      board (yes f) = subst⁻¹ (λ (x : ℕ). Fits m (σ′ .rcvd x m)) f (mine (silent s) refl)
+      mine : (κ : Kind) → CanHear d (columnOf k d) κ (σ .rcvd (s .board)) (σ .sent) → Fits m (added (columnOf k d) κ (σ .rcvd (s .board)) m)
+      mine silence H = X .within (s .board) m (a .board) hm
+      mine (message t x) H =
+          if-keeps (Fits m) _ (eqb t m) _ (λ z. column-laws (d .boards) (d .faulty) k .hear x _ _ (H .source) (coming-at H m z) (X .within (s .board) m (a .board) hm))
+          (λ z. X .within (s .board) m (a .board) hm)
 
   still-within : (q m : ℕ) → q < d .boards → m < d .types → Within k (d .boards) (d .faulty) (σ′ .rcvd q m) (σ′ .sent m)
-  still-within q m hq hm = go (newly d (σ .pc (s .board)) (σ′ .pc (s .board)) m) refl
-    where
-      go : (b : Bool) → newly d (σ .pc (s .board)) (σ′ .pc (s .board)) m ≡ b → Within k (d .boards) (d .faulty) (σ′ .rcvd q m) (σ′ .sent m)
-      go false e = subst⁻¹ (Within k (d .boards) (d .faulty) (σ′ .rcvd q m)) (a .keeps m hm e) (heard-within q m hq hm)
-      go true e =
-          subst⁻¹ (Within k (d .boards) (d .faulty) (σ′ .rcvd q m)) (a .sends m hm e)
-          (column-laws (d .boards) (d .faulty) k .tell (s .board) _ _ (a .board) (heard-within q m hq hm))
+  still-within q m hq hm =
+      let W = Within k (d .boards) (d .faulty) (σ′ .rcvd q m) in
+      let h = heard-within q m hq hm in
+      yes-no (newly d (σ .pc (s .board)) (σ′ .pc (s .board)) m) (λ e. subst⁻¹ W (a .sends m hm e) (column-laws (d .boards) (d .faulty) k .tell (s .board) _ _ (a .board) h))
+      (λ e. subst⁻¹ W (a .keeps m hm e) h)
 
   pub still-sound : Sound k d σ′
-  still-sound = record { within = still-within; told = still-told }
+  still-sound = record { within = still-within; told = λ m hm. still-told k d K s σ σ′ a m hm (X .told m hm) }
 
--- ---- every form, at the start, where no board has sent
+-- ---- every level, at the start, where no board has sent
 module _ (d : Design) where
   start-told : (k : ℕ) (σ : Conf (columnOf k d .Coll)) (m : ℕ) → ((p : ℕ) → p < d .boards → d .hasSent (σ .pc p) m ≡ false) → σ .sent m ≡ columnOf k d .init → Told k d σ m
   start-told zero σ m quiet e =
       let z : (q : ℕ) → mem (σ .sent m) q ≡ false = λ q. rw e (set-laws .empty q) in
       (λ q l. z q, λ p h. z p ∙ sym (quiet p h))
-  start-told (suc zero) σ m quiet e = tt
-  start-told (suc (suc k)) σ m quiet e = tt
+  start-told (suc k) σ m quiet e = tt
 
   pub start-sound : (k : ℕ) (σ : Conf (columnOf k d .Coll)) → ((p m : ℕ) → p < d .boards → m < d .types → d .hasSent (σ .pc p) m ≡ false)
       → ((p m : ℕ) → p < d .boards → m < d .types → σ .rcvd p m ≡ columnOf k d .init) → ((m : ℕ) → m < d .types → σ .sent m ≡ columnOf k d .init) → Sound k d σ

@@ -1,5 +1,5 @@
--- The agreement of two neighbouring forms, for a step and for a schedule, from words w of form j and v of form j + 1 that are
--- pictured; and of all forms, for a schedule of any of them. The proofs are in proofs/Agree.antt and proofs/Runs.antt.
+-- The agreement of two neighbouring levels, for a step and for a schedule, from words w of level j and v of level j + 1 that are
+-- pictured; and of all levels, for a schedule of any of them. The proofs are in proofs/Agree.antt and proofs/Runs.antt.
 use mathlib.Core.Path.{_≡_}
 use mathlib.Core.List.{List, map}
 use Prim.Native.Nat.{ℕ, suc, _≤_, _<_}
@@ -35,14 +35,14 @@ pub record RunBack (j : ℕ) (d : Design) (w v : List ℕ) (ss : List Step) : Ty
   pub trip : map (tagged j d) (lowAll j d w ss) ≡ ss
   pub pictured : (i : ℕ) → Pictured j d (after j d w (lowAll j d w ss) i) (after (suc j) d v ss i)
 
--- ---- a schedule of form k that runs from `begin k`, in all forms
+-- ---- a schedule of level k that runs from `begin k`, at all levels
 pub record InAllForms (d : Design) (begin : ℕ → List ℕ) (k : ℕ) (ss : List Step) : Type 0 where
-  -- its translation to its own form is itself; to a coarser form it is tagged once more; to a finer one it takes the lowest sources
+  -- its translation to its own level is itself; to a coarser level it is tagged once more; to a finer one it takes the lowest sources
   pub own : moved k k d begin ss ≡ ss
   pub up : (i : ℕ) → k ≤ i → moved k (suc i) d begin ss ≡ map (tagged i d) (moved k i d begin ss)
   pub down : (i : ℕ) → i < k → moved k i d begin ss ≡ lowAll i d (begin i) (moved k (suc i) d begin ss)
-  -- it runs in every form, and after every number of steps the words of neighbouring forms are pictured
+  -- it runs at every level, and after every number of steps the words of neighbouring levels are pictured
   pub runs : (i : ℕ) → run i d (begin i) (moved k i d begin ss) .refusal ≡ 0
   pub pictured : (i n : ℕ) → Pictured i d (after i d (begin i) (moved k i d begin ss) n) (after (suc i) d (begin (suc i)) (moved k (suc i) d begin ss) n)
-  -- to a finer form and back: the same steps
+  -- to a finer level and back: the same steps
   pub back : (i : ℕ) → i ≤ k → moved i k d begin (moved k i d begin ss) ≡ ss

@@ -1,4 +1,4 @@
--- The paper's Definition 3.3, on words, for two neighbouring forms: the words v of form j + 1 are the picture of the words w of form j.
+-- The paper's Definition 3.3, on words, for two neighbouring levels: the words v of level j + 1 are the picture of the words w of level j.
 -- From sets to two counts it is the paper's own; from two counts to one it is the same with their sum (Q-4).
 use mathlib.Core.Path.{_≡_}
 use mathlib.Core.Bool.{true, false}
@@ -6,14 +6,14 @@ use mathlib.Core.List.{List}
 use Prim.Native.Nat.{ℕ, zero, suc, _+_, _≤_, _<_}
 use lib.ListN.{length}
 use Rattle.senders.specs.Set.{mem, correctCount, faultyCount}
-use Rattle.paper.specs.Paper.{Design, Conf, column}
+use Rattle.paper.specs.Paper.{Design, Conf, column, noMessage}
 use Rattle.paper.specs.Words.{size, state}
 use Rattle.paper.specs.Form.{wide}
-use Rattle.paper.specs.Step.{columnOf, rcvdOf, sentOf, view}
+use Rattle.paper.specs.Step.{columnOf, rcvdIn, sentIn, view}
 
--- what an accepted table gives: 255 is no type, and a rule forgets nothing that was sent
-pub record Kept (d : Design) : Type 0 where
-  pub few : d .types ≤ 255
+-- what an accepted table gives: no type is the byte of no message, and a rule forgets nothing that was sent
+pub record Remembers (d : Design) : Type 0 where
+  pub few : d .types ≤ noMessage
   pub keeps : (r m : ℕ) → r < d .rules → m < d .types → d .hasSent (d .from r) m ≡ true → d .hasSent (d .to r) m ≡ true
 
 -- the picture of a collection: of a set, how many of it are correct and how many faulty; of two counts, their sum
@@ -25,7 +25,7 @@ picture (suc (suc j)) C f c = c
 abbrev pub pictureOf : (j : ℕ) (d : Design) → columnOf j d .Coll → columnOf (suc j) d .Coll
 pictureOf j d M = picture j (d .boards) (d .faulty) M
 
--- ---- what a form keeps, whatever steps are accepted
+-- ---- what a level keeps, whatever steps are accepted
 -- of what was received of a type, against what was sent of it: what came from correct processes was sent, and the rest is from faulty
 -- ones (point 7); so by number, where none that is faulty was sent (point 5); and for the plain count by their sum
 abbrev pub Within : (k C f : ℕ) → column k C f .Coll → column k C f .Coll → Type 0
@@ -50,8 +50,8 @@ pub record Pictured (j : ℕ) (d : Design) (w v : List ℕ) : Type 0 where
   -- 1: the control states are the same
   pub states : (p : ℕ) → p < d .boards → state v p ≡ state w p
   -- 2, 3: the received counts are those of the sets, or their sums
-  pub rcvds : (p m : ℕ) → p < d .boards → m < d .types → rcvdOf (suc j) d v p m ≡ pictureOf j d (rcvdOf j d w p m)
+  pub rcvds : (p m : ℕ) → p < d .boards → m < d .types → rcvdIn (suc j) d v p m ≡ pictureOf j d (rcvdIn j d w p m)
   -- 4, 5: so are the sent ones, none of which is faulty
-  pub sents : (m : ℕ) → m < d .types → sentOf (suc j) d v m ≡ pictureOf j d (sentOf j d w m)
-  -- 6 to 8: what form j keeps
+  pub sents : (m : ℕ) → m < d .types → sentIn (suc j) d v m ≡ pictureOf j d (sentIn j d w m)
+  -- 6 to 8: what level j keeps
   pub sound : Sound j d (view j d w)

@@ -1,1 +1,1 @@
-// The agreement of the forms, message, counting and plain: definitions and theorems; there is no code here.
+// The agreement of the levels, message, counting and plain: definitions and theorems; there is no code here.

@@ -2,7 +2,7 @@
 use mathlib.Core.Path.{_≡_, refl, sym, ap, _∙_}
 use mathlib.Core.Bool.{Bool, true, false, not, _||_}
 use mathlib.Core.List.{List}
-use Prim.Native.Nat.{ℕ, _+_, _-_, _*_, _%_, _≤_, _<_}
+use Prim.Native.Nat.{ℕ, zero, suc, _+_, _-_, _*_, _%_, _≤_, _<_}
 use native.Mathlib.Nat.{mul-le-mul-right, one-mul}
 use native.Mathlib.Omega.{arith}
 use native.Mathlib.Decide.{ℕ-discrete}
@@ -10,18 +10,19 @@ use borrow.Author.Tests.{ltb-false, leb-false, not-false, eq-eqb, ne-eqb, le-leb
 use lib.ListN.{length, take, drop, length-drop}
 use lib.Seq.{length-take-le}
 use Rattle.fault.specs.declared.Verdict.{Verdict}
-use Rattle.fault.specs.Bytes.{byteAt}
+use Rattle.fault.specs.Bytes.{byteAt, trailerBytes}
 use Rattle.fault.specs.Tests.{_over_, _atLeast_, _atMost_, _differs_, outside}
 use Rattle.fault.specs.Fault.{refused, firstFault}
 use Rattle.fault.proofs.FaultLaws.{if-yes, if-no, if-passed, then-clean, first-clean, Clean, if-most, Within, check-within, then-within, first-within}
 use Rattle.fault.proofs.TestLaws.{or-none, inside, same}
-use Rattle.table.specs.Table.{statesOf, factorOf, initialOf}
+use Rattle.table.specs.Table.{statesOf, factorOf, initialOf, mostTable}
 use Rattle.table.specs.Refusals.{tableFault}
 use Rattle.table.specs.Facts.{Sized}
 use Rattle.table.proofs.TableLaws.{well-formed, table-within, table-short}
-use Rattle.bundle.specs.Bundle.{stepDistance, startDistance, nOf, tOf, fOf, correctOf, frontLength, tableInUse, startsOf, stepsAt, stepsOf}
+use Rattle.senders.specs.Set.{mostBoards, mostTolerated}
+use Rattle.bundle.specs.Bundle.{stepDistance, startDistance, nOf, tOf, fOf, levelOf, correctOf, frontLength, tableInUse, startsOf, stepsAt, stepBytes, mostStepBytes, mostBundle, stepsOf, mostForm, mostLevel}
 use Rattle.bundle.specs.Refusals.{noTrailer, outOfBundle, notAdmitted, stepsOff, notInitial, startFault, scheduleFault, faultWith, readFault}
-use Rattle.bundle.specs.Facts.{Trailed, Admitted, Parted, Begins, Read}
+use Rattle.bundle.specs.Facts.{Trailed, Admitted, Parted, StartFits, Read}
 
 -- ---- the table in use, from the length n of the front
 pub use-standing : {n : ℕ} (b st : List ℕ) → n ≡ frontLength b → n ≡ 0 → st ≡ tableInUse b st
@@ -41,33 +42,49 @@ pub steps-are : {a y : ℕ} (b : List ℕ) → a ≡ stepsAt b → y ≡ stepDis
 unfolding stepsOf
 steps-are {a} {y} b e g = let z : a + y - a ≡ stepDistance b = omega arith in rw (z, e)
 
+-- ---- the level, of a form that is read and of any
+pub level-same : (k : ℕ) → k ≤ mostLevel → levelOf k ≡ k
+unfolding levelOf
+level-same zero h = refl
+level-same (suc zero) h = refl
+level-same (suc (suc k)) h = omega arith
+
+pub level-low : {k : ℕ} (x : ℕ) → k ≡ x → k < mostLevel → k ≡ levelOf x
+level-low {k} x e h = e ∙ sym (level-same x (omega arith))
+
+pub level-high : {k : ℕ} (x : ℕ) → k ≡ x → mostLevel ≤ k → mostLevel ≡ levelOf x
+unfolding levelOf
+level-high zero e h = absurd (omega arith)
+level-high (suc zero) e h = absurd (omega arith)
+level-high (suc (suc x)) e h = refl
+
 -- ---- each test that says no
-pub long-by : {a : Bool} (b : List ℕ) → a ≡ noTrailer b → a ≡ false → 8 ≤ length b
+pub trailer-by : {a : Bool} (b : List ℕ) → a ≡ noTrailer b → a ≡ false → trailerBytes ≤ length b
 unfolding noTrailer
-long-by b e f = ltb-false (length b) 8 (sym e ∙ f)
+trailer-by b e f = ltb-false (length b) trailerBytes (sym e ∙ f)
 
 pub trailed : {x y : Bool} (b : List ℕ) → x ≡ noTrailer b → x ≡ false → y ≡ outOfBundle b → y ≡ false → Trailed b
 unfolding outOfBundle
-trailed b e f g h = record { long = long-by b e f; inside = ltb-false (length b) (startDistance b + 8) (sym g ∙ h) }
+trailed b e f g h = record { long = trailer-by b e f; inside = ltb-false (length b) (startDistance b + trailerBytes) (sym g ∙ h) }
 
 admitted : (k : ℕ) (b : List ℕ) → notAdmitted k b ≡ false → Admitted k b
 unfolding notAdmitted
 admitted k b h =
-    let p = or-none (outside 1 64 (nOf b) || nOf b atMost k * tOf b || fOf b over tOf b) _ h in
-    let q = or-none (outside 1 64 (nOf b) || nOf b atMost k * tOf b) _ (p .0) in
-    let r = or-none (outside 1 64 (nOf b)) _ (q .0) in
-    let n = inside 1 64 (nOf b) (r .0) in
-    record { some-board = n .0; few-boards = n .1; enough = leb-false _ _ (r .1); faulty = ltb-false _ _ (q .1); form = ltb-false 2 _ (p .1) }
+    let p = or-none (outside 1 mostBoards (nOf b) || nOf b atMost k * tOf b || fOf b over tOf b) _ h in
+    let q = or-none (outside 1 mostBoards (nOf b) || nOf b atMost k * tOf b) _ (p .0) in
+    let r = or-none (outside 1 mostBoards (nOf b)) _ (q .0) in
+    let n = inside 1 mostBoards (nOf b) (r .0) in
+    record { some-board = n .0; few-boards = n .1; enough = leb-false _ _ (r .1); faulty = ltb-false _ _ (q .1); form = ltb-false mostForm _ (p .1) }
 
 pub parted : {y : Bool} (b : List ℕ) → Trailed b → y ≡ stepsOff b → y ≡ false → Parted b
 unfolding stepsOff frontLength startsOf stepsOf
 parted b u e f =
-    let p = or-none (stepDistance b % 4 differs 0 || stepDistance b over 16384) _ (sym e ∙ f) in
-    let q = or-none (stepDistance b % 4 differs 0) _ (p .0) in
+    let p = or-none (stepDistance b % stepBytes differs 0 || stepDistance b over mostStepBytes) _ (sym e ∙ f) in
+    let q = or-none (stepDistance b % stepBytes differs 0) _ (p .0) in
     let s = same (startDistance b) (stepDistance b + correctOf b) (p .1) in
     record {
       whole-steps = same _ 0 (q .0);
-      few-steps = ltb-false 16384 _ (q .1);
+      few-steps = ltb-false mostStepBytes _ (q .1);
       starts-first = s;
       starts-inside = omega (arith, s, u .inside);
       steps-last = omega (arith, s, u .inside);
@@ -75,7 +92,7 @@ parted b u e f =
       steps-long = length-take-le (stepDistance b) _ (rw length-drop (omega (arith, s, u .inside)));
     }
 
-begins : (table : List ℕ) (start : ℕ) → notInitial table start ≡ false → Begins table start
+begins : (table : List ℕ) (start : ℕ) → notInitial table start ≡ false → StartFits table start
 unfolding notInitial
 begins table start h =
     let p = or-none (start atLeast statesOf table) _ h in record { state = leb-false _ _ (p .0); initial = not-false _ (p .1) }
@@ -111,7 +128,7 @@ pub starts-last : {y : Bool} {v : Verdict} {ss : List ℕ} (table b : List ℕ) 
 starts-last table b u e f h q = h ∙ rw (q, parted b u e f .starts-long)
 
 -- ---- the whole
-few : (k t n : ℕ) → 1 ≤ k → k * t < n → n ≤ 64 → t ≤ 63
+few : (k t n : ℕ) → 1 ≤ k → k * t < n → n ≤ mostBoards → t ≤ mostTolerated
 few k t n h l m = omega (arith, mul-le-mul-right {m = 1} {n = k} t h, one-mul t)
 
 read : (table b : List ℕ) → Clean (faultWith table b) → Read table b
@@ -161,12 +178,12 @@ module _ (table b : List ℕ) where
   unfolding faultWith
   read-within = check-within _ (omega arith) (λ _. check-within _ (omega arith) (λ _. then-within (table-within table) schedule-within))
 
--- ---- a bundle that is read has at most 17,392 bytes: a table's 936, 64 starts, 4,096 steps of 4, a trailer of 8
-pub read-short : (b st : List ℕ) → Read (tableInUse b st) b → length b ≤ 17392
+-- ---- a bundle that is read is no longer than its parts can be
+pub read-short : (b st : List ℕ) → Read (tableInUse b st) b → length b ≤ mostBundle
 unfolding frontLength
 read-short b st R = omega (arith, front (ℕ-discrete (frontLength b) 0), R .trailed .inside, R .parted .starts-first, R .parted .few-steps, R .admitted .few-boards)
   where
-    front : Dec (frontLength b ≡ 0) → frontLength b ≤ 936
+    front : Dec (frontLength b ≡ 0) → frontLength b ≤ mostTable
     front (yes z) = omega arith
     front (no n) =
         let e : length (take (frontLength b) b) ≡ frontLength b = length-take-le (frontLength b) b (omega arith) in

@@ -4,28 +4,29 @@ use mathlib.Core.Bool.{true}
 use mathlib.Core.List.{List}
 use Prim.Native.Nat.{ℕ, _+_, _*_, _%_, _≤_, _<_}
 use lib.ListN.{length}
-use Rattle.fault.specs.Bytes.{byteAt, trailerOf}
+use Rattle.fault.specs.Bytes.{byteAt, trailerOf, trailerBytes}
 use Rattle.table.specs.Table.{statesOf, factorOf, initialOf}
 use Rattle.table.specs.Facts.{WellFormed}
-use Rattle.bundle.specs.Bundle.{stepDistance, startDistance, nOf, tOf, fOf, formOf, correctOf, frontLength, startsOf, stepsAt, stepsOf}
+use Rattle.senders.specs.Set.{mostBoards, mostTolerated}
+use Rattle.bundle.specs.Bundle.{stepDistance, startDistance, nOf, tOf, fOf, formOf, correctOf, frontLength, startsOf, stepsAt, stepBytes, mostStepBytes, stepsOf, mostForm}
 
 -- its trailer lies inside (refusals 10 and 11)
 pub record Trailed (b : List ℕ) : Type 0 where
-  pub long : 8 ≤ length b
-  pub inside : startDistance b + 8 ≤ length b
+  pub long : trailerBytes ≤ length b
+  pub inside : startDistance b + trailerBytes ≤ length b
 
 -- its numbers (refusal 12)
 pub record Admitted (k : ℕ) (b : List ℕ) : Type 0 where
   pub some-board : 1 ≤ nOf b
-  pub few-boards : nOf b ≤ 64
+  pub few-boards : nOf b ≤ mostBoards
   pub enough : k * tOf b < nOf b
   pub faulty : fOf b ≤ tOf b
-  pub form : formOf b ≤ 2
+  pub form : formOf b ≤ mostForm
 
 -- its parts (refusal 13)
 pub record Parted (b : List ℕ) : Type 0 where
-  pub whole-steps : stepDistance b % 4 ≡ 0
-  pub few-steps : stepDistance b ≤ 16384
+  pub whole-steps : stepDistance b % stepBytes ≡ 0
+  pub few-steps : stepDistance b ≤ mostStepBytes
   pub starts-first : startDistance b ≡ stepDistance b + correctOf b
   pub starts-inside : frontLength b + correctOf b ≤ length b
   pub steps-last : stepsAt b + stepDistance b ≡ trailerOf b
@@ -33,7 +34,7 @@ pub record Parted (b : List ℕ) : Type 0 where
   pub steps-long : length (stepsOf b) ≡ stepDistance b
 
 -- a start byte (refusal 14)
-pub record Begins (table : List ℕ) (start : ℕ) : Type 0 where
+pub record StartFits (table : List ℕ) (start : ℕ) : Type 0 where
   pub state : start < statesOf table
   pub initial : initialOf table start ≡ true
 
@@ -42,8 +43,8 @@ pub record Read (table b : List ℕ) : Type 0 where
   pub trailed : Trailed b
   pub admitted : Admitted (factorOf table) b
   pub parted : Parted b
-  pub start : (p : ℕ) → p < correctOf b → Begins table (byteAt (startsOf b) p)
+  pub start : (p : ℕ) → p < correctOf b → StartFits table (byteAt (startsOf b) p)
   -- what n > k·t and f ≤ t come to
-  pub few-tolerated : tOf b ≤ 63
+  pub few-tolerated : tOf b ≤ mostTolerated
   pub some-correct : 1 ≤ correctOf b
   pub all : correctOf b + fOf b ≡ nOf b

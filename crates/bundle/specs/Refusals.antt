@@ -4,28 +4,29 @@ use mathlib.Core.List.{List}
 use Prim.Native.Nat.{ℕ, _+_, _*_, _%_}
 use lib.ListN.{length}
 use Rattle.fault.specs.declared.Verdict.{Verdict}
-use Rattle.fault.specs.Bytes.{byteAt}
+use Rattle.fault.specs.Bytes.{byteAt, trailerBytes}
 use Rattle.fault.specs.Tests.{_below_, _over_, _atLeast_, _atMost_, _differs_, outside}
 use Rattle.fault.specs.Fault.{refused, _if_else_, _▹_, firstFault}
 use Rattle.table.specs.Table.{statesOf, factorOf, initialOf}
 use Rattle.table.specs.Refusals.{tableFault}
-use Rattle.bundle.specs.Bundle.{stepDistance, startDistance, nOf, tOf, fOf, formOf, correctOf, tableInUse, startsOf}
+use Rattle.senders.specs.Set.{mostBoards}
+use Rattle.bundle.specs.Bundle.{stepDistance, startDistance, nOf, tOf, fOf, formOf, correctOf, tableInUse, startsOf, stepBytes, mostStepBytes, mostForm}
 
--- 10: bundle under 8 bytes
+-- 10: bundle shorter than a trailer
 unfoldable pub noTrailer : List ℕ → Bool
-noTrailer b = length b below 8
+noTrailer b = length b below trailerBytes
 
--- 11: second distance plus 8 exceeds the bundle
+-- 11: second distance with a trailer exceeds the bundle
 unfoldable pub outOfBundle : List ℕ → Bool
-outOfBundle b = startDistance b + 8 over length b
+outOfBundle b = startDistance b + trailerBytes over length b
 
 -- 12: n, t, f not admitted (n in 1..64, n > k·t, f ≤ t), or form over 2 (Q-4)
 unfoldable pub notAdmitted : ℕ → List ℕ → Bool
-notAdmitted k b = outside 1 64 (nOf b) || nOf b atMost k * tOf b || fOf b over tOf b || formOf b over 2
+notAdmitted k b = outside 1 mostBoards (nOf b) || nOf b atMost k * tOf b || fOf b over tOf b || formOf b over mostForm
 
 -- 13: step distance no multiple of 4, over 16,384, or second distance not that plus n-f
 unfoldable pub stepsOff : List ℕ → Bool
-stepsOff b = stepDistance b % 4 differs 0 || stepDistance b over 16384 || startDistance b differs stepDistance b + correctOf b
+stepsOff b = stepDistance b % stepBytes differs 0 || stepDistance b over mostStepBytes || startDistance b differs stepDistance b + correctOf b
 
 -- 14, of a start byte: it is not an initial state
 unfoldable pub notInitial : List ℕ → ℕ → Bool

@@ -2,13 +2,35 @@
 ghost use mathlib.Core.Path.{_≡_};
 ghost use Prim.Native.Nat.{_+_, _≤_, _<_};
 ghost use lib.ListN.{length};
-ghost use Rattle.fault.specs.Bytes.{trailerOf};
+ghost use Rattle.fault.specs.Bytes.{trailerOf, trailerBytes};
 ghost use Rattle.fault.specs.Fault.{firstFault};
 ghost use Rattle.table.specs.Facts.{Sized};
-ghost use Rattle.bundle.specs.Bundle.{stepDistance, startDistance, nOf, tOf, fOf, formOf, correctOf, frontLength, tableInUse, startsOf, stepsAt, stepsOf};
+ghost use Rattle.bundle.specs.Bundle.{stepDistance, startDistance, nOf, tOf, fOf, formOf, levelOf, correctOf, frontLength, tableInUse, startsOf, stepsAt, stepsOf, mostLevel};
 ghost use Rattle.bundle.specs.Refusals.{noTrailer, outOfBundle, notAdmitted, stepsOff, notInitial, startFault, scheduleFault, faultWith, readFault};
 ghost use Rattle.bundle.specs.Facts.{Trailed, Parted};
 use fault::Verdict;
+
+// The most boards; the least is 1.
+pub const MOST_BOARDS: usize = senders::MOST_BOARDS as usize;
+
+// The last form, and the last level that a form steps at.
+pub const MOST_FORM: usize = 2;
+
+pub const MOST_LEVEL: usize = 2;
+
+// How many bytes a step record has: board, rule, type, source.
+pub const STEP_BYTES: usize = 4;
+
+// The most steps that a schedule has, and their bytes.
+pub const MOST_STEPS: usize = 4096;
+
+pub const MOST_STEP_BYTES: usize = MOST_STEPS * STEP_BYTES;
+
+// The most bytes of a bundle: a table of its own, starts, steps and a trailer.
+pub const MOST_BYTES: usize = table::MOST_BYTES
+    + MOST_BOARDS
+    + MOST_STEP_BYTES
+    + fault::TRAILER_BYTES;
 
 // The bundle's first refusal beside the standing table, for every two byte strings.
 pub fn read_fault<'a>(bundle: &'a [u8], standing: &'a [u8]) -> Verdict
@@ -60,59 +82,68 @@ pub fn table_in_use<'a>(bundle: &'a [u8], standing: &'a [u8]) -> &'a [u8]
 fn front(b: &[u8]) -> usize
     ensures { λ r. ⌜ (r ≡ frontLength (now (b .entry))) × (r ≤ length (now (b .entry))) ⌝ }
 {
-    if b.len() < 8 {
+    if b.len() < fault::TRAILER_BYTES {
         return 0;
     }
-    let back = start_distance(b) + 8;
+    let back = start_distance(b) + fault::TRAILER_BYTES;
     if b.len() < back { 0 } else { b.len() - back }
 }
 
 // ---- the trailer
 fn step_distance(b: &[u8]) -> usize
-    requires { ⌜ 8 ≤ length (now b) ⌝ }
+    requires { ⌜ trailerBytes ≤ length (now b) ⌝ }
     ensures { λ r. ⌜ (r ≡ stepDistance (now (b .entry))) × (r < 65536) ⌝ }
 {
     fault::trailer_u16(b, 0)
 }
 
 fn start_distance(b: &[u8]) -> usize
-    requires { ⌜ 8 ≤ length (now b) ⌝ }
+    requires { ⌜ trailerBytes ≤ length (now b) ⌝ }
     ensures { λ r. ⌜ (r ≡ startDistance (now (b .entry))) × (r < 65536) ⌝ }
 {
     fault::trailer_u16(b, 2)
 }
 
 pub fn n(b: &[u8]) -> usize
-    requires { ⌜ 8 ≤ length (now b) ⌝ }
+    requires { ⌜ trailerBytes ≤ length (now b) ⌝ }
     ensures { λ r. ⌜ (r ≡ nOf (now (b .entry))) × (r < 256) ⌝ }
 {
     fault::trailer_byte(b, 4)
 }
 
 pub fn t(b: &[u8]) -> usize
-    requires { ⌜ 8 ≤ length (now b) ⌝ }
+    requires { ⌜ trailerBytes ≤ length (now b) ⌝ }
     ensures { λ r. ⌜ (r ≡ tOf (now (b .entry))) × (r < 256) ⌝ }
 {
     fault::trailer_byte(b, 5)
 }
 
 pub fn f(b: &[u8]) -> usize
-    requires { ⌜ 8 ≤ length (now b) ⌝ }
+    requires { ⌜ trailerBytes ≤ length (now b) ⌝ }
     ensures { λ r. ⌜ (r ≡ fOf (now (b .entry))) × (r < 256) ⌝ }
 {
     fault::trailer_byte(b, 6)
 }
 
 pub fn form(b: &[u8]) -> usize
-    requires { ⌜ 8 ≤ length (now b) ⌝ }
+    requires { ⌜ trailerBytes ≤ length (now b) ⌝ }
     ensures { λ r. ⌜ (r ≡ formOf (now (b .entry))) × (r < 256) ⌝ }
 {
     fault::trailer_byte(b, 7)
 }
 
+// The level that its form steps at.
+pub fn level(b: &[u8]) -> usize
+    requires { ⌜ trailerBytes ≤ length (now b) ⌝ }
+    ensures { λ r. ⌜ (r ≡ levelOf (formOf (now (b .entry)))) × (r ≤ mostLevel) ⌝ }
+{
+    let k = form(b);
+    if k < MOST_LEVEL { k } else { MOST_LEVEL }
+}
+
 // How many boards are correct.
 pub fn correct(b: &[u8]) -> usize
-    requires { ⌜ 8 ≤ length (now b) ⌝ }
+    requires { ⌜ trailerBytes ≤ length (now b) ⌝ }
     ensures { λ r. ⌜ (r ≡ correctOf (now (b .entry))) × (r < 256) ⌝ }
 {
     let n = n(b);
@@ -154,34 +185,37 @@ pub fn steps_at(b: &[u8]) -> usize
 fn no_trailer(b: &[u8]) -> bool
     ensures { λ r. ⌜ r ≡ noTrailer (now (b .entry)) ⌝ }
 {
-    b.len() < 8
+    b.len() < fault::TRAILER_BYTES
 }
 
 // 11
 fn out_of_bundle(b: &[u8]) -> bool
-    requires { ⌜ 8 ≤ length (now b) ⌝ }
+    requires { ⌜ trailerBytes ≤ length (now b) ⌝ }
     ensures { λ r. ⌜ r ≡ outOfBundle (now (b .entry)) ⌝ }
 {
-    b.len() < start_distance(b) + 8
+    b.len() < start_distance(b) + fault::TRAILER_BYTES
 }
 
 // 12
 fn not_admitted(k: usize, b: &[u8]) -> bool
-    requires { ⌜ (k < 256) × (8 ≤ length (now b)) ⌝ }
+    requires { ⌜ (k < 256) × (trailerBytes ≤ length (now b)) ⌝ }
     ensures { λ r. ⌜ r ≡ notAdmitted k (now (b .entry)) ⌝ }
 {
     let n = n(b);
     let t = t(b);
-    fault::outside(1, 64, n) | (n <= fault::times(k, t)) | (t < f(b)) | (2 < form(b))
+    fault::outside(1, MOST_BOARDS, n)
+        | (n <= fault::times(k, t))
+        | (t < f(b))
+        | (MOST_FORM < form(b))
 }
 
 // 13
 fn steps_off(b: &[u8]) -> bool
-    requires { ⌜ 8 ≤ length (now b) ⌝ }
+    requires { ⌜ trailerBytes ≤ length (now b) ⌝ }
     ensures { λ r. ⌜ r ≡ stepsOff (now (b .entry)) ⌝ }
 {
     let d = step_distance(b);
-    (d % 4 != 0) | (16384 < d) | (start_distance(b) != d + correct(b))
+    (d % STEP_BYTES != 0) | (MOST_STEP_BYTES < d) | (start_distance(b) != d + correct(b))
 }
 
 // 14

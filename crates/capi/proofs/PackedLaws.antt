@@ -9,6 +9,7 @@ use Rattle.fault.specs.Tests.{_below_}
 use Rattle.fault.specs.Fault.{_if_else_}
 use Rattle.fault.proofs.FaultLaws.{if-keeps}
 use Rattle.fault.specs.declared.Answer.{Answer}
+use Rattle.bundle.specs.Bundle.{mostBundle}
 use Rattle.engine.specs.Entry.{runAnswer}
 use Rattle.engine.proofs.BoundLaws.{AnswerWithin, run-answer-within}
 use Rattle.translate.specs.Entry.{translateToAnswer}
@@ -61,7 +62,7 @@ run-fits : (b standing : List ℕ) (lent : ℕ) → Fits (runAnswer b standing l
 run-fits b standing lent = within-fits 4096 _ (omega arith) (run-answer-within b standing lent)
 
 translate-fits : (b standing : List ℕ) (k lent : ℕ) → Fits (translateToAnswer b standing k lent)
-translate-fits b standing k lent = within-fits 17392 _ (omega arith) (translate-answer-within b standing k lent)
+translate-fits b standing k lent = within-fits mostBundle _ (omega arith) (translate-answer-within b standing k lent)
 
 draw-fits : (s : List ℕ) (lent : ℕ) → Fits (drawAnswer s lent)
 draw-fits s lent = let W = draw-within s lent in record { refusal = omega (arith, W .refusal); place = omega (arith, W .place); count = omega (arith, W .count) }

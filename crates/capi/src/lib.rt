@@ -113,9 +113,9 @@ fn pack_first(f: First) -> u64
         First::Step {
             board,
             rule,
-            kind,
+            mtype,
             source,
-        } => pack_step(board as u64, rule as u64, kind as u64, source as u64),
+        } => pack_step(board as u64, rule as u64, mtype as u64, source as u64),
     }
 }
 
@@ -128,9 +128,9 @@ fn pack_refused(number: u64, place: u64) -> u64
 }
 
 // A step in one number: bit 24, and a byte for each of its numbers from bit 32.
-fn pack_step(board: u64, rule: u64, kind: u64, source: u64) -> u64
-    requires { ⌜ FirstFits (First.Step board rule kind source) ⌝ }
-    ensures { λ r. ⌜ r ≡ packedFirst (First.Step board rule kind source) ⌝ }
+fn pack_step(board: u64, rule: u64, mtype: u64, source: u64) -> u64
+    requires { ⌜ FirstFits (First.Step board rule mtype source) ⌝ }
+    ensures { λ r. ⌜ r ≡ packedFirst (First.Step board rule mtype source) ⌝ }
 {
-    16777216 + 4294967296 * (board + 256 * rule + 65536 * kind + 16777216 * source)
+    16777216 + 4294967296 * (board + 256 * rule + 65536 * mtype + 16777216 * source)
 }

@@ -6,16 +6,16 @@ use Rattle.bundle.specs.Bundle.{tableInUse}
 use Rattle.bundle.proofs.BundleLaws.{read-by}
 use Rattle.paper.specs.Paper.{Design, Step}
 use Rattle.paper.specs.Run.{run}
-use Rattle.agree.specs.Picture.{Kept, Pictured}
+use Rattle.agree.specs.Picture.{Remembers, Pictured}
 use Rattle.agree.specs.Agreement.{RunThere, RunBack}
 use Rattle.agree.proofs.Runs.{forward-run, backward-run, all-forms}
-use Rattle.engine.specs.Entry.{designIn}
+use Rattle.engine.specs.Design.{designIn}
 use Rattle.translate.proofs.ReadLaws.{kept, begins}
 use Rattle.claims.specs.Agreed.{beginIn, Agreed, ReadAgreed}
 use Rattle.claims.proofs.FirstAgreed.{first-agreed}
 
 -- ---- schedules
-module _ (j : ℕ) (d : Design) (K : Kept d) (w v : List ℕ) (X : Pictured j d w v) where
+module _ (j : ℕ) (d : Design) (K : Remembers d) (w v : List ℕ) (X : Pictured j d w v) where
   there : (ss : List Step) → run j d w ss .refusal ≡ 0 → RunThere j d w v ss
   there ss h = forward-run j d K w v ss X h
 

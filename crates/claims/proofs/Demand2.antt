@@ -13,14 +13,14 @@ use Rattle.paper.specs.Paper.{Design, Conf, Step, Moves, Initial}
 use Rattle.paper.specs.Words.{state, start}
 use Rattle.paper.specs.Form.{wide}
 use Rattle.paper.specs.Step.{columnOf, view, stepFault, stepped}
+use Rattle.paper.specs.Machine.{runBy}
 use Rattle.paper.specs.Run.{run, stepAt, after}
 use Rattle.paper.proofs.WordLaws.{start-low, length-start, cell-start, sent-start, same-words}
 use Rattle.paper.proofs.FormLaws.{coll-inj, shown-inj, coll-init, shown-init}
 use Rattle.paper.proofs.StepLaws.{length-stepped, step-moves, moves-step, moves-one}
 use Rattle.paper.proofs.RunLaws.{run-goes, run-stops, after-none, after-goes}
-use Rattle.engine.specs.Design.{sizesOf}
-use Rattle.rules.specs.Design.{designOf}
-use Rattle.engine.specs.Entry.{startOf, scheduleOf, ranWith}
+use Rattle.engine.specs.Design.{sizesOf, designWith}
+use Rattle.engine.specs.Entry.{startIn, scheduleOf, ranWith}
 use Rattle.claims.specs.Demand2.{Sized, StepMoves, RunMoves, BundleMoves, Demand2}
 
 -- ---- one step
@@ -50,7 +50,7 @@ module _ (k : ℕ) (d : Design) (w : List ℕ) (s : Step) (l : Sized k d w) wher
 -- ---- a run
 module _ (k : ℕ) (d : Design) where
   run-is : (ss : List Step) (w : List ℕ) → Sized k d w → RunMoves k d w ss (run k d w ss)
-  unfolding run
+  unfolding runBy
   run-is [] w l = record {
     each = λ i h. absurd (not-suc-le-zero h);
     left = refl;
@@ -91,16 +91,16 @@ module _ (b standing : List ℕ) (R : Read (tableInUse b standing) b) where
   t = tableInUse b standing
 
   abbrev k : ℕ
-  k = sizesOf t b .form
+  k = sizesOf t b .level
 
   abbrev d : Design
-  d = designOf (sizesOf t b) t
+  d = designWith t b
 
-  starts-in : (p : ℕ) → p < correctOf b → state (startOf t b) p ≡ getD (startsOf b) p 0
+  starts-in : (p : ℕ) → p < correctOf b → state (startIn (sizesOf t b) b) p ≡ getD (startsOf b) p 0
   unfolding state
   starts-in p h = start-low (d .boards) (d .types) (wide k) (startsOf b) (R .parted .starts-long) p h
 
-  begins : Initial d (columnOf k d) (view k d (startOf t b))
+  begins : Initial d (columnOf k d) (view k d (startIn (sizesOf t b) b))
   begins =
       let l = R .parted .starts-long in
       record {
@@ -111,10 +111,10 @@ module _ (b standing : List ℕ) (R : Read (tableInUse b standing) b) where
 
   bundle-is : BundleMoves b standing
   unfolding ranWith
-  bundle-is = record { begins = begins; runs = run-is k d (scheduleOf b) (startOf t b) (length-start (d .boards) (d .types) (wide k) (startsOf b) (R .parted .starts-long)) }
+  bundle-is = record { begins = begins; runs = run-is k d (scheduleOf b) (startIn (sizesOf t b) b) (length-start (d .boards) (d .types) (wide k) (startsOf b) (R .parted .starts-long)) }
 
-pub demand-2 : Demand2
-demand-2 = record {
+pub demand2 : Demand2
+demand2 = record {
   steps = step-is;
   schedules = λ k d w ss l. run-is k d ss w l;
   bundles = λ b standing z. bundle-is b standing (read-by b standing refl z refl);

@@ -16,10 +16,10 @@ use Rattle.fault.specs.Fault.{refused, nothingDone, _if_else_}
 use Rattle.fault.proofs.FaultLaws.{if-yes, if-no, if-keeps}
 use Rattle.fault.proofs.TestLaws.{same}
 use Rattle.table.specs.Table.{typesOf, rulesOf}
-use Rattle.bundle.specs.Bundle.{formOf, tableInUse}
+use Rattle.bundle.specs.Bundle.{formOf, tableInUse, levelOf}
 use Rattle.bundle.specs.Refusals.{readFault}
 use Rattle.bundle.specs.Facts.{Read}
-use Rattle.bundle.proofs.BundleLaws.{read-by, read-within}
+use Rattle.bundle.proofs.BundleLaws.{read-by, read-within, level-same}
 use Rattle.paper.specs.Paper.{Design, Step}
 use Rattle.paper.specs.Words.{size, start}
 use Rattle.paper.specs.Form.{wide}
@@ -32,7 +32,8 @@ use Rattle.agree.proofs.Columns.{picture-laws}
 use Rattle.agree.proofs.Runs.{all-forms}
 use Rattle.rules.specs.Design.{designOf}
 use Rattle.words.specs.Words.{roomOf}
-use Rattle.engine.specs.Entry.{sizesIn, designIn, startOf, scheduleOf, ranWith, ranOf, ranAnswer, runAnswer}
+use Rattle.engine.specs.Design.{sizesIn, designIn}
+use Rattle.engine.specs.Entry.{scheduleOf, ranWith, ranOf, ranAnswer, runAnswer, startIn}
 use Rattle.engine.proofs.BoundLaws.{ran-within}
 use Rattle.words.proofs.PlaceLaws.{rows-few, rows-are}
 use Rattle.engine.proofs.EntryLaws.{suits}
@@ -42,11 +43,12 @@ use Rattle.translate.proofs.ReadLaws.{kept, begins}
 use Rattle.translate.proofs.WriteLaws.{moved-long, rewritten-long}
 use Rattle.translate.proofs.RewrittenLaws.{same-n, same-t, same-f, new-form, same-table, same-start-bytes, new-steps, same-reading, rewritten-again, rewritten-own}
 use Rattle.translate.proofs.EntryLaws.{other-known, other-made, done-refused, enter-refused, enter-same, enter-short, enter-long}
-use Rattle.first_step.specs.First.{Found, none, found, first}
+use Rattle.paper.specs.Order.{Found, none, found, first}
 use Rattle.first_step.specs.Entry.{answerOf, afterRun, firstAnswer}
 use Rattle.claims.specs.FirstStep.{FirstAgreed}
 use Rattle.claims.specs.Demand3.{Runs, afterIn, Alike, Translated, taggedFound, lowestFound, Neighbours, Refuses, Demand3}
 use Rattle.claims.proofs.FirstAgreed.{first-agreed}
+use Rattle.words.specs.Facts.{mostWords}
 
 -- ---- neighbours are alike, and so are all forms
 module _ (d : Design) where
@@ -101,21 +103,24 @@ module _ (b standing : List ℕ) (S : Runs b standing) where
   d = designIn b standing
 
   abbrev begin : ℕ → List ℕ
-  begin i = beginOf t b i
+  begin i = beginOf (sizesIn b standing) b i
 
   abbrev ss : List Step
   ss = scheduleOf b
 
+  -- its level, its steps at level i, and the bundle in form k
+  abbrev level : ℕ
+  level = levelOf (formOf b)
+
   abbrev new : ℕ → List Step
-  new i = moved (formOf b) i d begin ss
+  new i = moved level i d begin ss
 
-  -- the bundle in form i
   abbrev form : ℕ → List ℕ
-  form i = rewritten b (new i) i
+  form k = rewritten b (new (levelOf k)) k
 
-  all : InAllForms d begin (formOf b) ss
+  all : InAllForms d begin level ss
   unfolding ranWith
-  all = all-forms d (kept t b R) begin (begins t b R) (formOf b) ss (S .accepted)
+  all = all-forms d (kept t b R) begin (begins t b R) level ss (S .accepted)
 
   own : translationOf b standing (formOf b) ≡ b
   unfolding translationWith
@@ -123,52 +128,58 @@ module _ (b standing : List ℕ) (S : Runs b standing) where
 
   -- the design depends on n, t, f and the table only
   abbrev design : ℕ → ℕ → ℕ → List ℕ → Design
-  design n t f table = designOf (record { form = 0; correct = n - f; faulty = f; t = t; types = typesOf table; rules = rulesOf table; wide = 1; row = typesOf table }) table
+  design n t f table = designOf (record { level = 0; correct = n - f; faulty = f; types = typesOf table; rules = rulesOf table; wide = 1; row = typesOf table }) t table
 
   module _ (k : ℕ) where
     abbrev c : List ℕ
     c = form k
 
-    many : length (new k) ≡ length ss
-    many = moved-long (formOf b) k d begin ss
+    abbrev l : ℕ
+    l = levelOf k
+
+    many : length (new l) ≡ length ss
+    many = moved-long level l d begin ss
 
     same-design : designIn c standing ≡ d
-    same-design = λ i. design (same-n t b R (new k) k many i) (same-t t b R (new k) k many i) (same-f t b R (new k) k many i) (same-table t b R (new k) k many standing i)
+    same-design = λ i. design (same-n t b R (new l) k many i) (same-t t b R (new l) k many i) (same-f t b R (new l) k many i) (same-table t b R (new l) k many standing i)
 
     abbrev form-c : formOf c ≡ k
-    form-c = new-form t b R (new k) k many
+    form-c = new-form t b R (new l) k many
+
+    abbrev level-c : levelOf (formOf c) ≡ l
+    level-c = ap levelOf form-c
 
     -- where the translation begins, and its words after i steps
-    begins-c : (i : ℕ) → beginOf (tableInUse c standing) c i ≡ begin i
-    begins-c i = λ x. start (typesOf (same-table t b R (new k) k many standing x)) (wide i) (same-start-bytes t b R (new k) k many x)
+    begins-c : (i : ℕ) → beginOf (sizesIn c standing) c i ≡ begin i
+    begins-c i = λ x. start (typesOf (same-table t b R (new l) k many standing x)) (wide i) (same-start-bytes t b R (new l) k many x)
 
-    begin-c : startOf (tableInUse c standing) c ≡ begin k
-    begin-c = λ i. start (typesOf (same-table t b R (new k) k many standing i)) (wide (form-c i)) (same-start-bytes t b R (new k) k many i)
+    begin-c : startIn (sizesIn c standing) c ≡ begin l
+    begin-c = λ i. start (typesOf (same-table t b R (new l) k many standing i)) (wide (level-c i)) (same-start-bytes t b R (new l) k many i)
 
-    ran-c : ranOf c standing ≡ run k d (begin k) (new k)
+    ran-c : ranOf c standing ≡ run l d (begin l) (new l)
     unfolding ranWith
-    ran-c = λ i. run (form-c i) (same-design i) (begin-c i) (new-steps t b R (new k) k many i)
+    ran-c = λ i. run (level-c i) (same-design i) (begin-c i) (new-steps t b R (new l) k many i)
 
-    after-c : (n : ℕ) → afterIn c standing n ≡ after k d (begin k) (new k) n
-    after-c n = λ i. after (form-c i) (same-design i) (begin-c i) (new-steps t b R (new k) k many i) n
+    after-c : (n : ℕ) → afterIn c standing n ≡ after l d (begin l) (new l) n
+    after-c n = λ i. after (level-c i) (same-design i) (begin-c i) (new-steps t b R (new l) k many i) n
 
     -- the words that are left are those after all steps
-    left-c : ranOf c standing .words ≡ after k d (begin k) (new k) (length ss)
-    left-c = ap (λ (r : Ran). r .words) ran-c ∙ sym (ap (λ (x : List Step). run k d (begin k) x .words) (take-all (length ss) (new k) (omega (arith, many))))
+    left-c : ranOf c standing .left ≡ after l d (begin l) (new l) (length ss)
+    left-c = ap (λ (r : Ran). r .left) ran-c ∙ sym (ap (λ (x : List Step). run l d (begin l) x .left) (take-all (length ss) (new l) (omega (arith, many))))
 
     runs-c : k ≤ 2 → Runs c standing
-    runs-c l = record {
-      read = ap (λ (v : Verdict). v .number) (same-reading t b R (new k) k many standing l refl) ∙ S .read;
-      accepted = ap (λ (r : Ran). r .refusal) ran-c ∙ all .runs k;
+    runs-c h = record {
+      read = ap (λ (v : Verdict). v .number) (same-reading t b R (new l) k many standing h refl) ∙ S .read;
+      accepted = ap (λ (r : Ran). r .refusal) ran-c ∙ all .runs l;
     }
 
-    alike-c : (n : ℕ) → Alike d (formOf b) (afterIn b standing n) k (afterIn c standing n)
+    alike-c : (n : ℕ) → Alike d level (afterIn b standing n) l (afterIn c standing n)
     alike-c n =
         let W : ℕ → List ℕ = λ i. after i d (begin i) (new i) n in
-        let e : W (formOf b) ≡ afterIn b standing n = ap (λ (x : List Step). after (formOf b) d (begin (formOf b)) x n) (all .own) in
+        let e : W level ≡ afterIn b standing n = ap (λ (x : List Step). after level d (begin level) x n) (all .own) in
         let A = alike-sets d W (λ i. all .pictured i n) in
-        subst⁻¹ (Alike d (formOf b) (afterIn b standing n) k) (after-c n)
-        (subst (λ (w : List ℕ). Alike d (formOf b) w k (W k)) e (alike-through d (A (formOf b)) (A k)))
+        subst⁻¹ (Alike d level (afterIn b standing n) l) (after-c n)
+        (subst (λ (w : List ℕ). Alike d level w l (W l)) e (alike-through d (A level) (A l)))
 
     -- ---- the answer and the bytes
     clean : (readFault b standing .number differs 0) ≡ false
@@ -177,31 +188,33 @@ module _ (b standing : List ℕ) (S : Runs b standing) where
     module _ (o : noOther b k ≡ false) where
       answered-c : (lent : ℕ) → length b ≤ lent → translateToAnswer b standing k lent ≡ record { refusal = 0; place = 0; count = length b }
       unfolding translateToAnswer wrote
-      answered-c lent l = sym (if-no _ refl clean (if-no _ refl o (if-no _ refl (le-ltb lent (length b) l) (if-yes _ refl refl (eq-eqb _ 0 (S .accepted))))))
+      answered-c lent h = sym (if-no _ refl clean (if-no _ refl o (if-no _ refl (le-ltb lent (length b) h) (if-yes _ refl refl (eq-eqb _ 0 (S .accepted))))))
 
       written-c : (out : List ℕ) → length b ≤ length out → translateToBytes b standing k out ≡ c ++ drop (length b) out
       unfolding translateToBytes translationWith
-      written-c out l = sym (if-no _ refl clean (if-no _ refl o (if-no _ refl (le-ltb (length out) (length b) l) (if-no _ refl (ap not (eq-eqb _ 0 (S .accepted))) refl))))
+      written-c out h = sym (if-no _ refl clean (if-no _ refl o (if-no _ refl (le-ltb (length out) (length b) h) (if-no _ refl (ap not (eq-eqb _ 0 (S .accepted))) refl))))
 
     -- ---- to a finer form and back
     back-c : k < formOf b → translationOf c standing (formOf b) ≡ b
     unfolding translationWith
-    back-c l =
-        let p : translationOf c standing (formOf b) ≡ rewritten c (moved k (formOf b) d begin (new k)) (formOf b) =
-        λ i. rewritten c (moved (form-c i) (formOf b) (same-design i) (λ x. begins-c x i) (new-steps t b R (new k) k many i)) (formOf b) in
-        p ∙ ap (λ (x : List Step). rewritten c x (formOf b)) (all .back k (omega arith)) ∙ rewritten-again t b R (new k) k many ss (formOf b) refl ∙ rewritten-own t b R
+    back-c h =
+        let f = R .admitted .form in
+        let o : l ≤ level = omega (arith, level-same k (omega arith), level-same (formOf b) f) in
+        let p : translationOf c standing (formOf b) ≡ rewritten c (moved l level d begin (new l)) (formOf b) =
+        λ i. rewritten c (moved (level-c i) level (same-design i) (λ x. begins-c x i) (new-steps t b R (new l) k many i)) (formOf b) in
+        p ∙ ap (λ (x : List Step). rewritten c x (formOf b)) (all .back l o) ∙ rewritten-again t b R (new l) k many ss (formOf b) refl ∙ rewritten-own t b R
 
     translated : noOther b k ≡ false → Translated b standing k (translationOf b standing k)
     unfolding translationWith
     translated o = record {
       answered = answered-c o;
       written = written-c o;
-      long = rewritten-long t b R (new k) k many;
-      table = same-table t b R (new k) k many standing;
-      starts = same-start-bytes t b R (new k) k many;
-      n = same-n t b R (new k) k many;
-      t = same-t t b R (new k) k many;
-      f = same-f t b R (new k) k many;
+      long = rewritten-long b (R .trailed) (R .parted) (new l) k many;
+      table = same-table t b R (new l) k many standing;
+      starts = same-start-bytes t b R (new l) k many;
+      n = same-n t b R (new l) k many;
+      t = same-t t b R (new l) k many;
+      f = same-f t b R (new l) k many;
       form = form-c;
       runs = runs-c (other-known b k o);
       alike = alike-c;
@@ -209,45 +222,55 @@ module _ (b standing : List ℕ) (S : Runs b standing) where
     }
 
   -- ---- neighbours
-  first-in : (k : ℕ) → k ≤ 2 → firstAnswer (form k) standing ≡ answerOf (first k d (ranOf (form k) standing .words))
+  first-in : (k : ℕ) → k ≤ 2 → firstAnswer (form k) standing ≡ answerOf (first (levelOf k) d (ranOf (form k) standing .left))
   unfolding firstAnswer afterRun
   first-in k l =
       let C = runs-c k l in
       sym (if-no _ refl (ap not (eq-eqb _ 0 (C .read))) (if-no _ refl (ap not (eq-eqb _ 0 (C .accepted))) refl))
-      ∙ (λ i. answerOf (first (form-c k i) (same-design k i) (ranOf (form k) standing .words)))
+      ∙ (λ i. answerOf (first (level-c k i) (same-design k i) (ranOf (form k) standing .left)))
+
+  -- of forms 0 to 2 the level is the form's own number
+  after-at : (k : ℕ) → k ≤ 2 → (n : ℕ) → afterIn (form k) standing n ≡ after k d (begin k) (new k) n
+  after-at k h n = after-c k n ∙ ap (λ (i : ℕ). after i d (begin i) (new i) n) (level-same k h)
+
+  left-at : (k : ℕ) → k ≤ 2 → ranOf (form k) standing .left ≡ after k d (begin k) (new k) (length ss)
+  left-at k h = left-c k ∙ ap (λ (i : ℕ). after i d (begin i) (new i) (length ss)) (level-same k h)
+
+  first-at : (k : ℕ) → k ≤ 2 → firstAnswer (form k) standing ≡ answerOf (first k d (ranOf (form k) standing .left))
+  first-at k h = first-in k h ∙ ap (λ (i : ℕ). answerOf (first i d (ranOf (form k) standing .left))) (level-same k h)
 
   module _ (j : ℕ) (l : j ≤ 1) where
     pictured-in : (n : ℕ) → Pictured j d (afterIn (form j) standing n) (afterIn (form (suc j)) standing n)
     pictured-in n =
-        subst⁻¹ (λ (w : List ℕ). Pictured j d w (afterIn (form (suc j)) standing n)) (after-c j n)
-        (subst⁻¹ (Pictured j d (after j d (begin j) (new j) n)) (after-c (suc j) n) (all .pictured j n))
+        subst⁻¹ (λ (w : List ℕ). Pictured j d w (afterIn (form (suc j)) standing n)) (after-at j (omega arith) n)
+        (subst⁻¹ (Pictured j d (after j d (begin j) (new j) n)) (after-at (suc j) (omega arith) n) (all .pictured j n))
 
-    left-pictured : Pictured j d (ranOf (form j) standing .words) (ranOf (form (suc j)) standing .words)
+    left-pictured : Pictured j d (ranOf (form j) standing .left) (ranOf (form (suc j)) standing .left)
     left-pictured =
-        subst⁻¹ (λ (w : List ℕ). Pictured j d w (ranOf (form (suc j)) standing .words)) (left-c j)
-        (subst⁻¹ (Pictured j d (after j d (begin j) (new j) (length ss))) (left-c (suc j)) (all .pictured j (length ss)))
+        subst⁻¹ (λ (w : List ℕ). Pictured j d w (ranOf (form (suc j)) standing .left)) (left-at j (omega arith))
+        (subst⁻¹ (Pictured j d (after j d (begin j) (new j) (length ss))) (left-at (suc j) (omega arith)) (all .pictured j (length ss)))
 
-    firsts : FirstAgreed j d (ranOf (form j) standing .words) (ranOf (form (suc j)) standing .words)
+    firsts : FirstAgreed j d (ranOf (form j) standing .left) (ranOf (form (suc j)) standing .left)
     firsts = first-agreed j d (kept t b R) _ _ left-pictured
 
     neighbours : Neighbours j d standing (translationOf b standing j) (translationOf b standing (suc j))
     unfolding translationWith
     neighbours = record {
       pictured = pictured-in;
-      first-there = first-in (suc j) (omega arith) ∙ ap answerOf (first-tagged d j _ _ firsts);
-      first-back = first-in j (omega arith) ∙ ap answerOf (first-lowest d j _ _ firsts);
+      first-there = first-at (suc j) (omega arith) ∙ ap answerOf (first-tagged d j _ _ firsts);
+      first-back = first-at j (omega arith) ∙ ap answerOf (first-lowest d j _ _ firsts);
     }
 
 -- ---- refusals
--- 580 words are enough
-room-few : (b standing : List ℕ) (lent : ℕ) → readFault b standing .number ≡ 0 → 580 ≤ lent → roomOf (sizesIn b standing) ≤ lent
+-- mostWords words are enough
+room-few : (b standing : List ℕ) (lent : ℕ) → readFault b standing .number ≡ 0 → mostWords ≤ lent → roomOf (sizesIn b standing) ≤ lent
 unfolding size
 room-few b standing lent z l =
     let s = sizesIn b standing in
     let B = suits (tableInUse b standing) b (read-by b standing refl z refl) refl .bounded in
     omega (arith, rows-few s B, rows-are s B, B .boards, B .types)
 
-module _ (b standing : List ℕ) (lent : ℕ) (l : 580 ≤ lent) where
+module _ (b standing : List ℕ) (lent : ℕ) (l : mostWords ≤ lent) where
   -- what `run` answers where it refuses at reading, and else
   run-unread : (readFault b standing .number ≡ 0 → ⊥) → runAnswer b standing lent ≡ nothingDone (readFault b standing)
   unfolding runAnswer
@@ -275,23 +298,22 @@ module _ (b standing : List ℕ) (k : ℕ) (out : List ℕ) where
   Refused a = Refuses b standing k out a
 
   unread : (readFault b standing .number ≡ 0 → ⊥) → Refused (nothingDone (readFault b standing))
-  unread n = let E = enter-refused b standing k out refl n refl in record { answer = sym (E .answer); bytes = sym (E .bytes) }
+  unread n = let E = enter-refused b standing k out n refl in record { answer = sym (E .answer); bytes = sym (E .bytes) }
 
   no-other : readFault b standing .number ≡ 0 → noOther b k ≡ true → Refused (nothingDone (refused 31))
-  no-other z o = let E = enter-same b standing k out refl z o refl in record { answer = sym (E .answer); bytes = sym (E .bytes) }
+  no-other z o = let E = enter-same b standing k out z o refl in record { answer = sym (E .answer); bytes = sym (E .bytes) }
 
   short : readFault b standing .number ≡ 0 → noOther b k ≡ false → length out < length b → Refused (nothingDone (refused 30))
-  short z o l = let E = enter-short b standing k out refl z o l refl in record { answer = sym (E .answer); bytes = sym (E .bytes) }
+  short z o l = let E = enter-short b standing k out z o l refl in record { answer = sym (E .answer); bytes = sym (E .bytes) }
 
   stopped : readFault b standing .number ≡ 0 → noOther b k ≡ false → length b ≤ length out → (ranOf b standing .refusal ≡ 0 → ⊥) → Refused (ranAnswer (ranOf b standing))
-  unfolding ranAnswer
+  unfolding ranAnswer ranWith
   stopped z o l n =
-      let x = take (length b) out in
-      let D = done-refused (tableInUse b standing) b x k (length b) refl n in
-      let E = enter-long b standing k out refl z o l refl D (take-append-drop (length b) out) in
+      let D = done-refused (sizesIn b standing) b (designIn b standing) k (take (length b) out) refl n in
+      let E = enter-long b standing k out z o (take (length b) out) l (D .answer) (if-no _ refl (ne-eqb _ 0 n) refl) (take-append-drop (length b) out) in
       record { answer = sym (E .answer); bytes = sym (E .bytes) ∙ take-append-drop (length b) out }
 
-  refuses : (lent : ℕ) → 580 ≤ lent → length b ≤ length out → noOther b k ≡ false → (runAnswer b standing lent .refusal ≡ 0 → ⊥) → Refused (runAnswer b standing lent)
+  refuses : (lent : ℕ) → mostWords ≤ lent → length b ≤ length out → noOther b k ≡ false → (runAnswer b standing lent .refusal ≡ 0 → ⊥) → Refused (runAnswer b standing lent)
   unfolding ranAnswer
   refuses lent l m o r = go (ℕ-discrete (readFault b standing .number) 0)
     where

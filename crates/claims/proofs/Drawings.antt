@@ -14,9 +14,9 @@ use Rattle.fault.specs.Tests.{_below_, _differs_}
 use Rattle.fault.specs.Fault.{refused, nothingDone, _if_else_}
 use Rattle.fault.proofs.FaultLaws.{if-keeps}
 use Rattle.table.specs.Table.{statesOf, rulesOf, typesOf, factorOf}
-use Rattle.table.specs.Refusals.{tableFault}
+use Rattle.table.specs.Refusals.{countsOutside, tableFault}
 use Rattle.dot.specs.Text.{drawingOf}
-use Rattle.dot.specs.Reading.{Read, Outcome, drawn, fault, reading}
+use Rattle.dot.specs.Reading.{Gathered, Outcome, drawn, fault, reading}
 use Rattle.dot.specs.Drawing.{Tokens, Drawing, Begins, Exact}
 use Rattle.dot.specs.Blanks.{moved}
 use Rattle.dot.proofs.Place.{read-draws}
@@ -25,8 +25,8 @@ use Rattle.dot.proofs.Tokens.{draws-tokens, tokens-read}
 use Rattle.dot.proofs.TokenPlace.{exact-place}
 use Rattle.dot.proofs.Blanks.{blank-inserted}
 use Rattle.dot.proofs.Gaps.{gap-between, tokens-gap}
-use Rattle.drawing.specs.Entry.{trailerOf, tableOf, strange, drawnFault, drawnTable, given, left, drawAnswer, drawBytes, undrawAnswer, undrawBytes}
-use Rattle.claims.specs.Drawings.{Gives, Table, ThereAndBack, NoDrawing, tableIn, Answered, Alike, oneLater, Inserted, Drawings}
+use Rattle.drawing.specs.Entry.{trailerFor, tableOf, drawnFault, drawnTable, given, left, drawAnswer, drawBytes, undrawAnswer, undrawBytes}
+use Rattle.claims.specs.Drawings.{Gives, Table, ThereAndBack, NoDrawing, tableIn, Answered, SameAnswer, oneLater, Inserted, Drawings}
 use Rattle.claims.proofs.DrawnTable.{Distances, distances, own-table, sized-counts, made-records, Later, later-0, later-2, later-above, records-later}
 
 -- ---- bytes that are given
@@ -95,35 +95,35 @@ module _ (t : List ℕ) (o : Outcome) (e : reading t ≡ o) where
       }
 
 -- ---- what was read
-module _ (r : Read) where
-  read-strange : strange (r .states) (r .rules) (r .types) (r .factor) ≡ true → drawnFault (drawn r) ≡ refused 2
+module _ (r : Gathered) where
+  read-strange : countsOutside (r .states) (r .rules) (r .types) (r .factor) ≡ true → drawnFault (drawn r) ≡ refused 2
   unfolding drawnFault _if_else_
   read-strange h = rw h
 
-  read-fine : strange (r .states) (r .rules) (r .types) (r .factor) ≡ false → drawnFault (drawn r) ≡ tableFault (tableOf r)
+  read-fine : countsOutside (r .states) (r .rules) (r .types) (r .factor) ≡ false → drawnFault (drawn r) ≡ tableFault (tableOf r)
   unfolding drawnFault _if_else_
   read-fine h = rw h
 
-  strange-refused : strange (r .states) (r .rules) (r .types) (r .factor) ≡ true → drawnFault (drawn r) .number ≡ 0 → ⊥
+  strange-refused : countsOutside (r .states) (r .rules) (r .types) (r .factor) ≡ true → drawnFault (drawn r) .number ≡ 0 → ⊥
   strange-refused h z = let q = sym (ap (λ (v : Verdict). v .number) (read-strange h)) ∙ z in omega (arith, q)
 
-  fine-number : strange (r .states) (r .rules) (r .types) (r .factor) ≡ false → drawnFault (drawn r) .number ≡ tableFault (tableOf r) .number
+  fine-number : countsOutside (r .states) (r .rules) (r .types) (r .factor) ≡ false → drawnFault (drawn r) .number ≡ tableFault (tableOf r) .number
   fine-number h = ap (λ (v : Verdict). v .number) (read-fine h)
 
   read-later : length (r .body) ≡ 2 * r .states + r .rules * (2 + 3 * r .types) → Later (drawnFault (drawn r) .number)
   unfolding drawnFault tableOf
   read-later l =
-      if-keeps (λ (v : Verdict). Later (v .number)) (refused 2) (strange (r .states) (r .rules) (r .types) (r .factor)) (tableFault (tableOf r)) (λ _. later-2)
+      if-keeps (λ (v : Verdict). Later (v .number)) (refused 2) (countsOutside (r .states) (r .rules) (r .types) (r .factor)) (tableFault (tableOf r)) (λ _. later-2)
       (λ h. rw (made-records (r .body) (r .states) (r .rules) (r .types) (r .factor) l h) (records-later (tableOf r)))
 
 -- a text read as the table s, whose counts are a table's
-gives-back : (t s : List ℕ) (r : Read) → reading t ≡ drawn r → strange (r .states) (r .rules) (r .types) (r .factor) ≡ false → tableOf r ≡ s → tableFault s .number ≡ 0 →
+gives-back : (t s : List ℕ) (r : Gathered) → reading t ≡ drawn r → countsOutside (r .states) (r .rules) (r .types) (r .factor) ≡ false → tableOf r ≡ s → tableFault s .number ≡ 0 →
     Gives (undrawAnswer t) (undrawBytes t) s
 unfolding drawnTable
 gives-back t s r e h f z =
     rw f at (undraw-gives t (drawn r) e (fine-number r h ∙ ap (λ (w : List ℕ). tableFault w .number) f ∙ z))
 
-read-drawing : (t : List ℕ) (r : Read) → reading t ≡ drawn r → Drawing t
+read-drawing : (t : List ℕ) (r : Gathered) → reading t ≡ drawn r → Drawing t
 read-drawing t r e =
     record { types = r .types; factor = r .factor; states = r .states; rules = r .rules; body = r .body; tokens = draws-tokens t r (read-draws t r e) }
 
@@ -141,7 +141,7 @@ module _ (s : List ℕ) (a : Table s) where
   unfolding tableOf
   back-from t l x w e =
       gives-back t s _ e (sized-counts s (far .sizes))
-      (ap (λ (y : ℕ). take y s ++ trailerOf (statesOf s) (rulesOf s) (typesOf s) (factorOf s)) w ∙ own-table s far (a .all-bytes)) (a .clean)
+      (ap (λ (y : ℕ). take y s ++ trailerFor (statesOf s) (rulesOf s) (typesOf s) (factorOf s)) w ∙ own-table s far (a .all-bytes)) (a .clean)
 
   both-ways : ThereAndBack s
   unfolding drawAnswer drawBytes
@@ -178,7 +178,7 @@ answered-as : (t : List ℕ) (d : Drawing t) → Answered t d
 unfolding tableOf
 answered-as t d =
     let e = tokens-read t (d .types) (d .factor) (d .states) (d .rules) (d .body) (d .tokens) in
-    let r : Read = record { types = d .types; factor = d .factor; states = d .states; rules = d .rules; last = e .0; body = d .body } in
+    let r : Gathered = record { types = d .types; factor = d .factor; states = d .states; rules = d .rules; last = e .0; body = d .body } in
     let l = given-later (drawnFault (drawn r)) (drawnTable (drawn r)) (read-later r (d .tokens .whole)) in
     let y : (lent : ℕ) → Later (undrawAnswer t lent .refusal) = λ lent. rw (answers t (drawn r) (e .1) lent) (l lent) in
     record {
@@ -191,7 +191,7 @@ answered-as t d =
     }
 
 -- ---- blanks
-same-answers : (t u : List ℕ) (T k n m : ℕ) (s : List ℕ) → Tokens t T k n m s → Tokens u T k n m s → Alike t u
+same-answers : (t u : List ℕ) (T k n m : ℕ) (s : List ℕ) → Tokens t T k n m s → Tokens u T k n m s → SameAnswer t u
 unfolding drawnFault drawnTable tableOf
 same-answers t u T k n m s a b =
     let e = tokens-read t T k n m s a in
@@ -236,7 +236,7 @@ suc-is x = omega arith
 
 module _ (p q : List ℕ) (c : ℕ) (moves : reading (p ++ (c ∷ q)) ≡ moved (length p) (reading (p ++ q))) where
   -- read as a table, both
-  put-drawn : (r : Read) → reading (p ++ q) ≡ drawn r → Inserted p q c
+  put-drawn : (r : Gathered) → reading (p ++ q) ≡ drawn r → Inserted p q c
   put-drawn r e =
       let f : reading (p ++ (c ∷ q)) ≡ drawn r = moves ∙ ap (moved (length p)) e in
       record {
@@ -320,7 +320,7 @@ module _ (p : List ℕ) (n : Begins p → ⊥) where
       let s : take (suc (a .place)) (p ++ q) ≡ take (suc (a .place)) p = take-append-le (suc (a .place)) p q (a .inside) in
       x .no-further l (subst⁻¹ Begins s (begins-shorter p (suc (a .place)) (b .place) h (subst Begins t (y .goes-on))))
 
-  alike-after : (q u : List ℕ) → Alike (p ++ q) (p ++ u)
+  alike-after : (q u : List ℕ) → SameAnswer (p ++ q) (p ++ u)
   alike-after q u =
       let a = before q in
       let b = before u in

@@ -15,10 +15,10 @@ use Rattle.fault.specs.Fault.{fine, verdict, refused, _if_else_, _▹_, firstFa
 use Rattle.fault.proofs.FaultLaws.{if-keeps, if-passed, Clean}
 use Rattle.fault.proofs.TestLaws.{or-none, same}
 use Rattle.table.specs.Table.{stateDistance, ruleDistance, statesOf, rulesOf, typesOf, factorOf, ruleSize}
-use Rattle.table.specs.Refusals.{tooShort, countsOff, distancesOff, noInitial, noState, forgets, sendsTwo, stateOff, stateFault, ruleFault, recordsFault, tableFault}
+use Rattle.table.specs.Refusals.{countsOutside, tooShort, countsOff, distancesOff, noInitial, noState, forgets, sendsTwo, stateOff, stateFault, ruleFault, recordsFault, tableFault}
 use Rattle.table.specs.Facts.{Sized}
 use Rattle.table.proofs.TableLaws.{sized}
-use Rattle.drawing.specs.Entry.{trailerOf, strange}
+use Rattle.drawing.specs.Entry.{trailerFor}
 
 -- ---- a table's own trailer
 -- its distances are those of its counts
@@ -56,8 +56,8 @@ last-eight s x e =
         drop-cons s (x + i) 0 (omega arith) ∙ ap (λ (y : ℕ). byteAt s (x + i) ∷ drop y s) z
 
 -- the trailer that a drawing of its counts is given is its own
-pub own-trailer : (s : List ℕ) → Distances s → ((x : ℕ) → byteAt s x < 256) → drop (length s - 8) s ≡ trailerOf (statesOf s) (rulesOf s) (typesOf s) (factorOf s)
-unfolding trailerOf
+pub own-trailer : (s : List ℕ) → Distances s → ((x : ℕ) → byteAt s x < 256) → drop (length s - 8) s ≡ trailerFor (statesOf s) (rulesOf s) (typesOf s) (factorOf s)
+unfolding trailerFor
 own-trailer s d all =
     let x = length s - 8 in
     let z : length s ≡ x + 8 = omega (arith, d .sizes .long) in
@@ -74,15 +74,15 @@ own-trailer s d all =
     (λ i. b₀ i ∷ b₁ i ∷ b₂ i ∷ b₃ i ∷ byteAt s (x + 4) ∷ byteAt s (x + 5) ∷ byteAt s (x + 6) ∷ byteAt s (x + 7) ∷ [])
 
 -- its records and that trailer are the table
-pub own-table : (s : List ℕ) → Distances s → ((x : ℕ) → byteAt s x < 256) → take (length s - 8) s ++ trailerOf (statesOf s) (rulesOf s) (typesOf s) (factorOf s) ≡ s
+pub own-table : (s : List ℕ) → Distances s → ((x : ℕ) → byteAt s x < 256) → take (length s - 8) s ++ trailerFor (statesOf s) (rulesOf s) (typesOf s) (factorOf s) ≡ s
 own-table s d all = ap (λ (w : List ℕ). take (length s - 8) s ++ w) (sym (own-trailer s d all)) ∙ take-append-drop (length s - 8) s
 
 -- counts that a table has are not strange
 within : (lo hi x : ℕ) → lo ≤ x → x ≤ hi → outside lo hi x ≡ false
 within lo hi x a b = rw (le-ltb x lo a, le-ltb hi x b)
 
-pub sized-counts : (s : List ℕ) → Sized s → strange (statesOf s) (rulesOf s) (typesOf s) (factorOf s) ≡ false
-unfolding strange
+pub sized-counts : (s : List ℕ) → Sized s → countsOutside (statesOf s) (rulesOf s) (typesOf s) (factorOf s) ≡ false
+unfolding countsOutside
 sized-counts s z =
     rw (
       within 1 16 (statesOf s) (z .some-state) (z .few-states),
@@ -94,36 +94,36 @@ sized-counts s z =
 -- ---- the table of a drawing
 module _ (w : List ℕ) (n m T k : ℕ) (e : length w ≡ 2 * n + m * (2 + 3 * T)) where
   abbrev made : List ℕ
-  made = w ++ trailerOf n m T k
+  made = w ++ trailerFor n m T k
 
   made-long : length made ≡ length w + 8
-  unfolding trailerOf
-  made-long = length-append w (trailerOf n m T k)
+  unfolding trailerFor
+  made-long = length-append w (trailerFor n m T k)
 
-  made-at : (i : ℕ) → byteAt made (length made - 8 + i) ≡ byteAt (trailerOf n m T k) i
-  made-at i = let z : length made - 8 ≡ length w = omega (arith, made-long) in rw z (getD-append-add w (trailerOf n m T k) i 0)
+  made-at : (i : ℕ) → byteAt made (length made - 8 + i) ≡ byteAt (trailerFor n m T k) i
+  made-at i = let z : length made - 8 ≡ length w = omega (arith, made-long) in rw z (getD-append-add w (trailerFor n m T k) i 0)
 
-  made-next : (i : ℕ) → byteAt made (length made - 8 + i + 1) ≡ byteAt (trailerOf n m T k) (i + 1)
+  made-next : (i : ℕ) → byteAt made (length made - 8 + i + 1) ≡ byteAt (trailerFor n m T k) (i + 1)
   made-next i = let z : length made - 8 + i + 1 ≡ length made - 8 + (i + 1) = omega arith in rw z (made-at (i + 1))
 
   pub made-enough : tooShort made ≡ false
   unfolding tooShort
   made-enough = le-ltb (length made) 8 (omega (arith, made-long))
 
-  pub made-counts : countsOff made ≡ strange n m T k
-  unfolding countsOff strange trailerOf
+  pub made-counts : countsOff made ≡ countsOutside n m T k
+  unfolding countsOff countsOutside trailerFor
   made-counts = rw (made-at 4, made-at 5, made-at 6, made-at 7)
 
   to-states : stateDistance made ≡ 2 * n + m * (2 + 3 * T)
-  unfolding trailerOf
+  unfolding trailerFor
   to-states = rw (made-at 0, made-next 0) (omega arith)
 
   to-rules : ruleDistance made ≡ m * (2 + 3 * T)
-  unfolding trailerOf
+  unfolding trailerFor
   to-rules = rw (made-at 2, made-next 2) (omega arith)
 
   pub made-distances : distancesOff made ≡ false
-  unfolding distancesOff trailerOf
+  unfolding distancesOff trailerFor
   made-distances =
       rw (
         to-states,
@@ -139,7 +139,7 @@ module _ (w : List ℕ) (n m T k : ℕ) (e : length w ≡ 2 * n + m * (2 + 3 * T
       )
 
   -- its trailer is not refused
-  pub made-records : strange n m T k ≡ false → tableFault made ≡ recordsFault made
+  pub made-records : countsOutside n m T k ≡ false → tableFault made ≡ recordsFault made
   unfolding tableFault _if_else_
   made-records h = rw (made-enough, made-counts, h, made-distances)
 

@@ -4,33 +4,44 @@ use Rattle.senders.specs.Tally.{count, some, every, least}
 use Rattle.senders.specs.Set.{mem, insert}
 use Rattle.threshold.specs.Threshold.{signedByte, thresholdOf}
 use Rattle.fault.specs.Fault.{_if_else_, _▹_, firstFault}
-use Rattle.table.specs.Table.{ruleAt}
-use Rattle.table.specs.Refusals.{tooShort, countsOff, distancesOff, stateOff, noInitial, noState, forgets, sendsTwo, stateFault, ruleFault, recordsFault, tableFault}
-use Rattle.bundle.specs.Bundle.{frontLength, tableInUse, startsOf, stepsOf}
+use Rattle.table.specs.Table.{ruleAt, ruleOf, coefficientsOf}
+use Rattle.table.specs.Refusals.{countsOutside, tooShort, countsOff, distancesOff, stateOff, noInitial, noState, forgets, sendsTwo, stateFault, ruleFault, recordsFault, tableFault}
+use Rattle.bundle.specs.Bundle.{frontLength, tableInUse, startsOf, stepsOf, levelOf}
 use Rattle.bundle.specs.Refusals.{noTrailer, outOfBundle, notAdmitted, stepsOff, notInitial, startFault, scheduleFault, faultWith}
 use Rattle.paper.specs.Words.{size, cellAt, sentAt, state, cell, sent, hear, tell, start}
 use Rattle.paper.specs.Form.{wide, slot, bump, coll, shown}
 use Rattle.paper.specs.Step.{heard, stepped, malformed, notInTransit, notMet, stepFault}
-use Rattle.paper.specs.Run.{stepsIn, run}
-use Rattle.agree.specs.Translation.{tagOf, tagBy, lowSender, lowest, lowAll, coarser, finer, moved}
+use Rattle.schedule.specs.Records.{stepsIn, bytesOf}
+use Rattle.agree.specs.Translation.{tagOf, tagBy, lowSender, lowest, coarser, finer, moved}
 use Rattle.rules.specs.Design.{metAt}
+use Rattle.paper.specs.Paper.{kindOf}
+use Rattle.paper.specs.Machine.{runBy, followAll}
 use Rattle.engine.specs.Entry.{ranWith, ranAnswer, runAnswer, runWords}
-use Rattle.translate.specs.Written.{bytesOf, rewritten, translationWith}
+use Rattle.translate.specs.Written.{rewritten, translationWith}
 use Rattle.translate.specs.Entry.{noOther, wrote, translateToAnswer, translateToBytes, usual}
-use Rattle.first_step.specs.First.{orElse, seek, tries, first, possible}
+use Rattle.paper.specs.Order.{orElse, seek, tries, first, possible}
 use Rattle.first_step.specs.Entry.{afterRun, firstAnswer}
 use Rattle.dot.specs.Numbers.{decimal, signed}
 use Rattle.dot.specs.Text.{isBlank, written, headText, joint, numbersText, labelText, stateText, ruleText, statesText, rulesText, tableText, drawingOf}
 use Rattle.dot.specs.Reading.{isDigit, canMinus, limit, grow, put, newState, newRule, nextState, take1, growing, whole, next, ended, onward, run as runText, reading}
-use Rattle.drawing.specs.Entry.{trailerOf, tableOf, strange, drawnFault, drawnTable, given, left, drawAnswer, drawBytes, undrawAnswer, undrawBytes}
-use Rattle.claims.specs.Figures.{Every, cases}
+use Rattle.drawing.specs.Entry.{trailerFor, tableOf, drawnFault, drawnTable, given, left, drawAnswer, drawBytes, undrawAnswer, undrawBytes}
+use Rattle.claims.specs.Figures.{Holds, Every, oneEnough, cases}
+
+-- one of them by its name, which refutes the claim of no echo for another table (`OneEcho.antt`)
+pub one-enough-holds : Holds oneEnough
+unfolding
+    count some every mem insert signedByte thresholdOf _if_else_ _▹_ firstFault ruleAt tooShort countsOff distancesOff stateOff noInitial noState forgets sendsTwo ruleOf coefficientsOf levelOf
+    stateFault ruleFault recordsFault tableFault frontLength tableInUse startsOf stepsOf noTrailer outOfBundle notAdmitted stepsOff notInitial startFault scheduleFault
+    faultWith size cellAt sentAt state cell sent hear tell start wide slot bump coll shown heard stepped malformed notInTransit notMet stepFault stepsIn kindOf runBy followAll metAt ranWith
+    ranAnswer runAnswer runWords countsOutside
+one-enough-holds = (refl, refl)
 
 pub figures : Every cases
 unfolding
-    count some every mem insert signedByte thresholdOf _if_else_ _▹_ firstFault ruleAt tooShort countsOff distancesOff stateOff noInitial noState forgets sendsTwo
+    count some every mem insert signedByte thresholdOf _if_else_ _▹_ firstFault ruleAt tooShort countsOff distancesOff stateOff noInitial noState forgets sendsTwo ruleOf coefficientsOf levelOf
     stateFault ruleFault recordsFault tableFault frontLength tableInUse startsOf stepsOf noTrailer outOfBundle notAdmitted stepsOff notInitial startFault scheduleFault
-    faultWith size cellAt sentAt state cell sent hear tell start wide slot bump coll shown heard stepped malformed notInTransit notMet stepFault stepsIn run tagOf tagBy lowSender lowest lowAll least metAt ranWith
+    faultWith size cellAt sentAt state cell sent hear tell start wide slot bump coll shown heard stepped malformed notInTransit notMet stepFault stepsIn kindOf runBy followAll tagOf tagBy lowSender lowest least metAt ranWith
     ranAnswer runAnswer runWords bytesOf rewritten coarser finer moved translationWith noOther wrote translateToAnswer translateToBytes usual orElse seek possible tries first afterRun firstAnswer
     decimal signed isBlank written headText joint numbersText labelText stateText ruleText statesText rulesText tableText drawingOf isDigit canMinus limit grow put newState newRule nextState
-    take1 growing whole next ended onward runText reading trailerOf tableOf strange drawnFault drawnTable given left drawAnswer drawBytes undrawAnswer undrawBytes
-figures = (refl, (refl, (refl, (refl, (refl, (refl, ((refl, refl), ((refl, refl), ((refl, refl), ((refl, refl), ((refl, refl), ((refl, refl), ((refl, refl), ((refl, refl), ((refl, refl), (refl, (refl, (refl, (refl, (refl, ((refl, refl), ((refl, refl), ((refl, refl), ((refl, refl), ((refl, refl), (refl, (refl, (refl, ((refl, refl), ((refl, refl), ((refl, refl), ((refl, refl), ((refl, refl), ((refl, refl), ((refl, refl), ((refl, refl), ((refl, refl), ((refl, refl), ((refl, refl), ((refl, refl), ((refl, refl), ((refl, refl), ((refl, refl), ((refl, refl), ((refl, refl), ((refl, refl), ((refl, refl), ((refl, refl), ((refl, refl), ((refl, refl), ((refl, refl), ((refl, refl), (refl, ((refl, refl), ((refl, refl), ((refl, refl), (refl, ((refl, refl), ((refl, refl), ((refl, refl), ((refl, refl), ((refl, refl), ((refl, refl), ((refl, refl), (refl, (refl, (refl, ((refl, refl), ((refl, refl), ((refl, refl), ((refl, refl), ((refl, refl), ((refl, refl), (refl, (refl, tt)))))))))))))))))))))))))))))))))))))))))))))))))))))))))))))))))))))))))))
+    take1 growing whole next ended onward runText reading trailerFor tableOf countsOutside drawnFault drawnTable given left drawAnswer drawBytes undrawAnswer undrawBytes
+figures = (refl, (refl, (refl, (refl, (refl, (refl, ((refl, refl), ((refl, refl), ((refl, refl), ((refl, refl), ((refl, refl), ((refl, refl), ((refl, refl), ((refl, refl), ((refl, refl), (refl, (refl, (refl, (refl, (refl, ((refl, refl), ((refl, refl), ((refl, refl), ((refl, refl), ((refl, refl), (refl, (refl, (refl, ((refl, refl), ((refl, refl), ((refl, refl), ((refl, refl), ((refl, refl), ((refl, refl), ((refl, refl), ((refl, refl), ((refl, refl), ((refl, refl), ((refl, refl), ((refl, refl), ((refl, refl), ((refl, refl), ((refl, refl), ((refl, refl), ((refl, refl), ((refl, refl), ((refl, refl), ((refl, refl), ((refl, refl), ((refl, refl), ((refl, refl), ((refl, refl), (refl, ((refl, refl), ((refl, refl), ((refl, refl), (refl, ((refl, refl), ((refl, refl), ((refl, refl), ((refl, refl), ((refl, refl), ((refl, refl), ((refl, refl), (refl, (refl, (refl, ((refl, refl), ((refl, refl), ((refl, refl), (one-enough-holds, ((refl, refl), ((refl, refl), (refl, (refl, tt)))))))))))))))))))))))))))))))))))))))))))))))))))))))))))))))))))))))))))

@@ -7,14 +7,15 @@ use Prim.Native.Nat.{ℕ, suc, _<_}
 use native.Mathlib.Decide.{decLt}
 use native.Mathlib.Omega.{arith}
 use Rattle.paper.specs.Paper.{Design, Step, silent}
-use Rattle.paper.specs.Step.{columnOf, rcvdOf, sentOf, stepFault}
+use Rattle.paper.specs.Step.{columnOf, rcvdIn, sentIn, stepFault}
 use Rattle.paper.proofs.StepLaws.{accepted}
 use Rattle.agree.specs.Translation.{tagOf, withSource, tagged, lowSender, lowest}
-use Rattle.agree.specs.Picture.{Kept, Pictured}
+use Rattle.agree.specs.Picture.{Remembers, Pictured}
 use Rattle.agree.proofs.Columns.{picture-laws}
 use Rattle.agree.proofs.Agree.{tagged-silent, tagged-message, lowest-silent, lowest-message, typed, low-is, low-first, forward, backward}
-use Rattle.step.specs.Step.{stepOf}
-use Rattle.first_step.specs.First.{Found, none, found, isWait, first}
+use Rattle.first_step.proofs.SeekLaws.{stepOf}
+use Rattle.paper.specs.Order.{Found, none, found, isWait, first}
+use Rattle.paper.proofs.OrderLaws.{message-waits}
 use Rattle.claims.specs.FirstStep.{EarlierMessage, noMessage, lowerType, lowerSource, Earlier, lowerBoard, lowerRule, message, FirstAgreed}
 use Rattle.claims.proofs.FirstStep.{clash, silent-is, first-possible}
 
@@ -43,7 +44,7 @@ module _ (s t : Step) (x y : ℕ) (f : Earlier (withSource s x) t → ⊥) (g : 
   not-after : EarlierMessage (withSource t y) s → ⊥
   not-after e = g (message (sym same-board) (sym same-rule) e)
 
-module _ (j : ℕ) (d : Design) (K : Kept d) (w v : List ℕ) (X : Pictured j d w v) where
+module _ (j : ℕ) (d : Design) (K : Remembers d) (w v : List ℕ) (X : Pictured j d w v) where
   -- ---- the first steps of the two forms are translations of each other
   module _ (s t : Step) (a : stepFault j d w s ≡ 0) (b : stepFault (suc j) d v t ≡ 0) where
     both-silent : silent s ≡ true → silent t ≡ true → (Earlier s t → ⊥) → (Earlier t s → ⊥) → s ≡ t
@@ -64,7 +65,7 @@ module _ (j : ℕ) (d : Design) (K : Kept d) (w v : List ℕ) (X : Pictured j d 
         let m : s .type ≡ t .type = neither _ _ (λ l. not-before s t x y f g (lowerType n h l)) (λ l. not-after s t x y f g (lowerType o e l)) in
         let S = low-is j d K w v X t B h in
         let tag : x ≡ t .source = neither _ _ (λ l. not-before s t x y f g (lowerSource n h m l)) (λ l. above l (S .tags) (λ u. not-after s t x y f g (lowerSource o e (sym m) u))) in
-        let moving = sym (λ i. columnOf j d .inTransit (s .source) (rcvdOf j d w (p i) (m i)) (sentOf j d w (m i))) ∙ A .transit e in
+        let moving = sym (λ i. columnOf j d .inTransit (s .source) (rcvdIn j d w (p i) (m i)) (sentIn j d w (m i))) ∙ A .transit e in
         let q : s .source ≡ y = neither _ _ (λ l. low-first j d K w v X t (s .source) l tag moving) (λ l. not-after s t x y f g (lowerSource o e (sym m) l)) in
         λ i. record { board = p i; rule = r i; type = m i; source = q i }
       where
@@ -87,14 +88,14 @@ module _ (j : ℕ) (d : Design) (K : Kept d) (w v : List ℕ) (X : Pictured j d 
     where
       go : (b : Bool) → silent s ≡ b → isWait d (tagged j d s) ≡ isWait d s
       go true e = ap (isWait d) (tagged-silent j d s e)
-      go false e = ap (isWait d) (tagged-message j d s e) ∙ rw (typed (d .types) s (tagOf j (d .boards) (s .source)) (K .few) (accepted j d w s z .arrives .named e .type), e)
+      go false e = ap (isWait d) (tagged-message j d s e) ∙ message-waits d (withSource s (tagOf j (d .boards) (s .source))) (typed (d .types) s (tagOf j (d .boards) (s .source)) (K .few) (accepted j d w s z .arrives .named e .type)) ∙ sym (message-waits d s e)
 
   wait-lowest : (t : Step) → stepFault (suc j) d v t ≡ 0 → isWait d (lowest j d w t) ≡ isWait d t
   wait-lowest t z = go (silent t) refl
     where
       go : (b : Bool) → silent t ≡ b → isWait d (lowest j d w t) ≡ isWait d t
       go true e = ap (isWait d) (lowest-silent j d t w e)
-      go false e = ap (isWait d) (lowest-message j d t w e) ∙ rw (typed (d .types) t (lowSender j d w t) (K .few) (accepted (suc j) d v t z .arrives .named e .type), e)
+      go false e = ap (isWait d) (lowest-message j d t w e) ∙ message-waits d (withSource t (lowSender j d w t)) (typed (d .types) t (lowSender j d w t) (K .few) (accepted (suc j) d v t z .arrives .named e .type)) ∙ sym (message-waits d t e)
 
   both-found : (s t : Step) → first j d w ≡ found s → first (suc j) d v ≡ found t → s ≡ lowest j d w t
   both-found s t h k =

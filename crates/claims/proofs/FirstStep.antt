@@ -13,8 +13,8 @@ use Rattle.fault.specs.Fault.{_if_else_}
 use Rattle.paper.specs.Paper.{Design, Step, silent}
 use Rattle.paper.specs.Step.{columnOf, stepFault}
 use Rattle.paper.proofs.StepLaws.{Accepted, accepted}
-use Rattle.step.specs.Step.{stepOf}
-use Rattle.first_step.specs.First.{Found, none, found, orElse, seek, isWait, possible, tries, ofSources, ofTypes, ofRules, first}
+use Rattle.first_step.proofs.SeekLaws.{stepOf}
+use Rattle.paper.specs.Order.{Found, none, found, orElse, seek, isWait, possible, tries, ofSources, ofTypes, ofRules, first}
 use Rattle.claims.specs.FirstStep.{EarlierMessage, noMessage, lowerType, lowerSource, Earlier, lowerBoard, lowerRule, message, FirstPossible}
 
 pub clash : {A : Type 0} (s : Step) → none ≡ found s → A
@@ -87,11 +87,11 @@ module _ (k : ℕ) (d : Design) (w : List ℕ) where
   is-possible s z o = rw (eq-eqb _ 0 z, o)
 
   -- ---- a step that is tried
-  tried-none : (p r m q : ℕ) → tries k d w p r m q ≡ none → Possible (stepOf p r m q) → ⊥
+  tried-none : (p r m q : ℕ) → tries (possible k d w) p r m q ≡ none → Possible (stepOf p r m q) → ⊥
   unfolding tries _if_else_
   tried-none p r m q h z = clash (stepOf p r m q) (sym h ∙ rw z)
 
-  tried-found : (p r m q : ℕ) (s : Step) → tries k d w p r m q ≡ found s → (s ≡ stepOf p r m q) × (Possible (stepOf p r m q))
+  tried-found : (p r m q : ℕ) (s : Step) → tries (possible k d w) p r m q ≡ found s → (s ≡ stepOf p r m q) × (Possible (stepOf p r m q))
   unfolding tries _if_else_
   tried-found p r m q s = go (possible k d w (stepOf p r m q)) refl
     where
@@ -100,7 +100,7 @@ module _ (k : ℕ) (d : Design) (w : List ℕ) where
       go false e h = clash s h
 
   -- ---- an accepted step is seen at its board and rule
-  rule-sees : (s : Step) → Possible s → ofTypes n d w k (s .board) (s .rule) ≡ none → ⊥
+  rule-sees : (s : Step) → Possible s → ofTypes n d (possible k d w) (s .board) (s .rule) ≡ none → ⊥
   rule-sees s z h = go (silent s) refl
     where
       A : Accepted k d w s
@@ -111,46 +111,46 @@ module _ (k : ℕ) (d : Design) (w : List ℕ) where
       go false e =
           let N = A .arrives .named e in
           tried-none (s .board) (s .rule) (s .type) (s .source)
-          (seek-each n (tries k d w (s .board) (s .rule) (s .type)) (seek-each (d .types) (ofSources n d w k (s .board) (s .rule)) (or-second _ _ h) (s .type) (N .type)) (s .source) (N .source)) z
+          (seek-each n (tries (possible k d w) (s .board) (s .rule) (s .type)) (seek-each (d .types) (ofSources n (possible k d w) (s .board) (s .rule)) (or-second _ _ h) (s .type) (N .type)) (s .source) (N .source)) z
 
-  board-sees : (s : Step) → Possible s → ofRules n d w k (s .board) ≡ none → ⊥
-  board-sees s z h = rule-sees s z (seek-each (d .rules) (ofTypes n d w k (s .board)) h (s .rule) (accepted k d w s (is-accepted s z) .arrives .rule))
+  board-sees : (s : Step) → Possible s → ofRules n d (possible k d w) (s .board) ≡ none → ⊥
+  board-sees s z h = rule-sees s z (seek-each (d .rules) (ofTypes n d (possible k d w) (s .board)) h (s .rule) (accepted k d w s (is-accepted s z) .arrives .rule))
 
   none-is : first k d w ≡ none → (s : Step) → Possible s → ⊥
   unfolding first
-  none-is h s z = board-sees s z (seek-each (d .boards) (ofRules n d w k) h (s .board) (accepted k d w s (is-accepted s z) .arrives .board))
+  none-is h s z = board-sees s z (seek-each (d .boards) (ofRules n d (possible k d w)) h (s .board) (accepted k d w s (is-accepted s z) .arrives .board))
 
   -- ---- where a step is found
   -- at board p and rule r, by the try of no message, or by that of type m and source q
   data ByRule (p r : ℕ) (s : Step) : Type 0 where
     byNone : s ≡ stepOf p r 255 255 → Possible (stepOf p r 255 255) → ByRule p r s
-    byMessage : (m q : ℕ) → s ≡ stepOf p r m q → Possible (stepOf p r m q) → tries k d w p r 255 255 ≡ none
-        → ((j : ℕ) → j < m → ofSources n d w k p r j ≡ none) → ((j : ℕ) → j < q → tries k d w p r m j ≡ none) → ByRule p r s
+    byMessage : (m q : ℕ) → s ≡ stepOf p r m q → Possible (stepOf p r m q) → tries (possible k d w) p r 255 255 ≡ none
+        → ((j : ℕ) → j < m → ofSources n (possible k d w) p r j ≡ none) → ((j : ℕ) → j < q → tries (possible k d w) p r m j ≡ none) → ByRule p r s
 
-  by-rule : (p r : ℕ) (s : Step) → ofTypes n d w k p r ≡ found s → ByRule p r s
+  by-rule : (p r : ℕ) (s : Step) → ofTypes n d (possible k d w) p r ≡ found s → ByRule p r s
   unfolding orElse
-  by-rule p r s h = go (tries k d w p r 255 255) refl h
+  by-rule p r s h = go (tries (possible k d w) p r 255 255) refl h
     where
-      go : (a : Found) → tries k d w p r 255 255 ≡ a → orElse a (seek (d .types) (ofSources n d w k p r)) ≡ found s → ByRule p r s
+      go : (a : Found) → tries (possible k d w) p r 255 255 ≡ a → orElse a (seek (d .types) (ofSources n (possible k d w) p r)) ≡ found s → ByRule p r s
       go (found t) e h = let f = tried-found p r 255 255 s (e ∙ h) in byNone (f .0) (f .1)
       go none e h =
-          let M = seek-hit (d .types) (ofSources n d w k p r) s h in
-          let Q = seek-hit n (tries k d w p r (M .at)) s (M .here) in
+          let M = seek-hit (d .types) (ofSources n (possible k d w) p r) s h in
+          let Q = seek-hit n (tries (possible k d w) p r (M .at)) s (M .here) in
           let f = tried-found p r (M .at) (Q .at) s (Q .here) in
           byMessage (M .at) (Q .at) (f .0) (f .1) e (M .before) (Q .before)
 
   record Place (s : Step) : Type 0 where
     board : ℕ
     rule : ℕ
-    boards : (j : ℕ) → j < board → ofRules n d w k j ≡ none
-    rules : (j : ℕ) → j < rule → ofTypes n d w k board j ≡ none
+    boards : (j : ℕ) → j < board → ofRules n d (possible k d w) j ≡ none
+    rules : (j : ℕ) → j < rule → ofTypes n d (possible k d w) board j ≡ none
     found-by : ByRule board rule s
 
   place : (s : Step) → first k d w ≡ found s → Place s
   unfolding first
   place s h =
-      let B = seek-hit (d .boards) (ofRules n d w k) s h in
-      let R = seek-hit (d .rules) (ofTypes n d w k (B .at)) s (B .here) in
+      let B = seek-hit (d .boards) (ofRules n d (possible k d w)) s h in
+      let R = seek-hit (d .rules) (ofTypes n d (possible k d w) (B .at)) s (B .here) in
       record { board = B .at; rule = R .at; boards = B .before; rules = R .before; found-by = by-rule (B .at) (R .at) s (R .here) }
 
   by-accepted : (p r : ℕ) (s : Step) → ByRule p r s → Possible s
@@ -175,7 +175,7 @@ module _ (k : ℕ) (d : Design) (w : List ℕ) where
         tried-none p r 255 255 h (ap₂ (λ (x y : ℕ). possible k d w (stepOf x y 255 255)) (sym hp) (sym hr) ∙ ap (possible k d w) (silent-is t a) ∙ z)
     no-earlier-message p r s (byMessage m q e y h f g) hp hr (lowerType a b l) =
         let N = accepted k d w t (is-accepted t z) .arrives .named a in
-        tried-none p r (t .type) (t .source) (seek-each n (tries k d w p r (t .type)) (f (t .type) (subst (λ (x : ℕ). t .type < x) (ap (λ (x : Step). x .type) e) l)) (t .source) (N .source))
+        tried-none p r (t .type) (t .source) (seek-each n (tries (possible k d w) p r (t .type)) (f (t .type) (subst (λ (x : ℕ). t .type < x) (ap (λ (x : Step). x .type) e) l)) (t .source) (N .source))
         (ap₂ (λ (x y : ℕ). possible k d w (stepOf x y (t .type) (t .source))) (sym hp) (sym hr) ∙ z)
     no-earlier-message p r s (byMessage m q e y h f g) hp hr (lowerSource a b c l) =
         tried-none p r m (t .source) (g (t .source) (subst (λ (x : ℕ). t .source < x) (ap (λ (x : Step). x .source) e) l))
@@ -186,7 +186,7 @@ module _ (k : ℕ) (d : Design) (w : List ℕ) where
     no-earlier s P (lowerBoard l) = board-sees t z (P .boards (t .board) (subst (λ (x : ℕ). t .board < x) (by-board (P .board) (P .rule) s (P .found-by)) l))
     no-earlier s P (lowerRule e l) =
         let h : t .board ≡ P .board = e ∙ by-board (P .board) (P .rule) s (P .found-by) in
-        rule-sees t z (subst⁻¹ (λ (x : ℕ). ofTypes n d w k x (t .rule) ≡ none) h (P .rules (t .rule) (subst (λ (x : ℕ). t .rule < x) (by-number (P .board) (P .rule) s (P .found-by)) l)))
+        rule-sees t z (subst⁻¹ (λ (x : ℕ). ofTypes n d (possible k d w) x (t .rule) ≡ none) h (P .rules (t .rule) (subst (λ (x : ℕ). t .rule < x) (by-number (P .board) (P .rule) s (P .found-by)) l)))
     no-earlier s P (message e f m) =
         no-earlier-message (P .board) (P .rule) s (P .found-by) (e ∙ by-board (P .board) (P .rule) s (P .found-by)) (f ∙ by-number (P .board) (P .rule) s (P .found-by)) m
 

@@ -1,55 +1,54 @@
 -- No echo from nothing. One invariant, kept by every move of every form: all boards in V0, nothing sent, and what `Sound` says of it.
 -- So a board counts at most f messages, and f ≤ t is less than rules 1 and 2 ask for: t + 1, and n - t.
 use mathlib.Core.Path.{_≡_, refl, sym, ap, _∙_, subst, subst⁻¹}
-use mathlib.Core.Bool.{Bool, true, false, true≢false}
-use mathlib.Core.List.{List, [], _∷_, _++_}
+use mathlib.Core.Bool.{Bool, true, false, true≢false, not}
+use mathlib.Core.List.{List, _++_}
 use Prim.Native.Nat.{ℕ, zero, suc, _+_, _*_, _-_, _≤_, _<_}
 use native.Mathlib.Omega.{arith}
 use native.Mathlib.Decide.{ℕ-discrete, decLt}
 use lib.Dec.{ltb, leb}
 use lib.IntN.{pos, negℤ, subℕ, _+ℤ_, +ℤ-idr}
 use lib.Signed.{leZ}
-use lib.ListN.{length, getD, take, replicate, length-replicate, getD-replicate, List·getD-append}
-use borrow.Author.Tests.{leb-true, ltb-true}
+use lib.ListN.{length, getD, take, drop, replicate, length-replicate, getD-replicate, List·getD-append}
+use borrow.Author.Tests.{leb-true, ltb-true, ne-eqb, eq-eqb}
 use Rattle.senders.specs.Set.{mem}
 use Rattle.senders.proofs.TallyLaws.{count-none, count-at-most}
 use Rattle.senders.proofs.SetLaws.{set-laws, count-laws}
 use Rattle.threshold.specs.Threshold.{signedByte, thresholdOf}
-use Rattle.table.specs.Table.{ruleAt, coefficientsAt}
+use Rattle.table.specs.Table.{ruleAt, ruleOf, coefficientsOf}
 use Rattle.paper.specs.Paper.{Design, Conf, Step, Moves, column, newly}
 use Rattle.paper.specs.Words.{size, cellAt, sentAt, state, cell, sent, start}
 use Rattle.paper.specs.Form.{wide, shown}
-use Rattle.paper.specs.Step.{columnOf, rcvdOf, view, stepFault, stepped}
-use Rattle.paper.specs.Run.{Ran, run}
+use Rattle.paper.specs.Step.{columnOf, rcvdIn, view, stepFault, stepped}
+use Rattle.paper.proofs.MachineLaws.{run-keeps}
+use Rattle.paper.specs.Run.{machineOf, run}
 use Rattle.paper.proofs.WordLaws.{cell-below, start-low, length-start, sent-start}
 use Rattle.paper.proofs.FormLaws.{coll-same, shown-init, shown-inj}
 use Rattle.paper.proofs.StepLaws.{step-moves, length-stepped}
-use Rattle.paper.proofs.RunLaws.{run-goes, run-stops}
-use Rattle.agree.specs.Picture.{Kept, Within, Sound}
+use Rattle.agree.specs.Picture.{Remembers, Within, Sound}
 use Rattle.agree.proofs.Sound.{heard-within, still-sound}
 use Rattle.agree.proofs.Runs.{sound-start}
-use Rattle.fault.proofs.FaultLaws.{if-passed}
-use Rattle.bundle.specs.Bundle.{tOf, fOf, formOf, correctOf, tableInUse, startsOf}
+use Rattle.fault.proofs.FaultLaws.{if-passed, if-yes, if-no}
+use Rattle.bundle.specs.Bundle.{tOf, fOf, formOf, correctOf, tableInUse, startsOf, levelOf}
 use Rattle.bundle.specs.Refusals.{readFault}
 use Rattle.bundle.specs.Facts.{Read}
 use Rattle.bundle.proofs.BundleLaws.{use-standing, use-front, read-by, read-within}
-use Rattle.engine.specs.Design.{sizesOf}
-use Rattle.rules.specs.Design.{designOf, metAt}
+use Rattle.engine.specs.Design.{designIn, designWith, sizesIn}
+use Rattle.rules.specs.Design.{metAt}
 use Rattle.words.specs.Words.{roomOf}
-use Rattle.engine.specs.Entry.{designIn, scheduleOf, ranWith, runAnswer, runWords}
+use Rattle.engine.specs.Entry.{scheduleOf, ranWith, runAnswer, runWords}
 use Rattle.fault.specs.declared.Answer.{Answer}
 use Rattle.engine.proofs.EntryLaws.{enter-refused, enter-short, enter-run}
 use Rattle.first_step.specs.declared.First.{First}
-use Rattle.first_step.specs.First.{Found, none, found, first}
+use Rattle.paper.specs.Order.{Found, none, found, first}
 use Rattle.first_step.specs.Entry.{answerOf, afterRun, firstAnswer}
-use Rattle.first_step.proofs.EntryLaws.{first-refused, first-read}
 use Rattle.claims.specs.NoEcho.{echoTable, Quiet, Admits, designFor, fromV0, Never, Uses, front, beside, InV0, Configures, whole, stopped, NoEcho, Q5}
 use Rattle.claims.proofs.FirstStep.{first-possible}
 use Rattle.claims.proofs.OneEcho.{one-enough}
 
 -- ---- what rules 1 and 2 ask for, from the table's bytes
-one-asks : (n t c : ℕ) → metAt echoTable (coefficientsAt echoTable 1 0) n t c ≡ true → t < c
-unfolding metAt thresholdOf signedByte ruleAt
+one-asks : (n t c : ℕ) → metAt echoTable 1 0 n t c ≡ true → t < c
+unfolding metAt thresholdOf signedByte ruleAt ruleOf coefficientsOf
 one-asks n t c h = omega (arith, leb-true _ c h)
 
 sub-met : (n t c : ℕ) → leZ (subℕ n t) (pos c) ≡ true → n ≤ c + t
@@ -63,8 +62,8 @@ minus-met : (a b c : ℕ) → leZ (pos a +ℤ negℤ (pos b) +ℤ pos 0) (pos c)
 minus-met a zero c h = omega (arith, leb-true _ c h)
 minus-met a (suc b) c h = sub-met a (suc b) c (rw +ℤ-idr at h)
 
-two-asks : (n t c : ℕ) → metAt echoTable (coefficientsAt echoTable 2 0) n t c ≡ true → n ≤ c + t
-unfolding metAt thresholdOf signedByte ruleAt
+two-asks : (n t c : ℕ) → metAt echoTable 2 0 n t c ≡ true → n ≤ c + t
+unfolding metAt thresholdOf signedByte ruleAt ruleOf coefficientsOf
 two-asks n t c h = omega (arith, minus-met (1 * n) (1 * t) c h)
 
 -- ---- where nothing was sent, a board has heard from faulty ones only
@@ -99,7 +98,7 @@ module _ (k C f t : ℕ) where
   keeps (suc (suc (suc (suc (suc (suc zero)))))) m l h = h
   keeps (suc (suc (suc (suc (suc (suc (suc r))))))) m l h = absurd (omega arith)
 
-  kept : Kept d
+  kept : Remembers d
   kept = record { few = omega arith; keeps = λ r m l _. keeps r m l }
 
   -- ---- the invariant, of a configuration
@@ -132,7 +131,7 @@ module _ (k C f t : ℕ) where
         states = X .states;
         sents = X .sents;
         sent-words = λ m h. shown-inj k C f 0 _ (X .sents m h ∙ sym (shown-init k C f 0 refl));
-        counts = λ p m hp hm. few-heard k C f _ (subst (Within k C f (rcvdOf k d w p m)) (X .sents m hm) (X .sound .within p m hp hm));
+        counts = λ p m hp hm. few-heard k C f _ (subst (Within k C f (rcvdIn k d w p m)) (X .sents m hm) (X .sound .within p m hp hm));
       }
 
   -- ---- admitted n, t, f
@@ -190,17 +189,11 @@ module _ (k C f t : ℕ) where
       shows = still s (view k d w) (view k d (stepped k d w s)) (S .shows) (step-moves k d w s (S .long) z);
     }
 
-    run-stays : (ss : List Step) (w : List ℕ) → Stays w → Stays (run k d w ss .words)
-    unfolding run
-    run-stays [] w S = S
-    run-stays (s ∷ ss) w S = go (ℕ-discrete (stepFault k d w s) 0) (run-stays ss (stepped k d w s))
-      where
-        go : Dec (stepFault k d w s ≡ 0) → (Stays (stepped k d w s) → Stays (run k d (stepped k d w s) ss .words)) → Stays (run k d w (s ∷ ss) .words)
-        go (yes z) ih = subst⁻¹ Stays (ap (λ (r : Ran). r .words) (run-goes k d w s ss z)) (ih (step-stays w s S z))
-        go (no n) ih = subst⁻¹ Stays (ap (λ (r : Ran). r .words) (run-stops k d w s ss n)) S
+    run-stays : (ss : List Step) (w : List ℕ) → Stays w → Stays (run k d w ss .left)
+    run-stays ss w = run-keeps (machineOf k d) Stays step-stays w ss
 
     -- ---- schedules
-    from-zeros : (ss : List Step) → Stays (run k d (fromV0 echoTable k C) ss .words)
+    from-zeros : (ss : List Step) → Stays (run k d (fromV0 echoTable k C) ss .left)
     from-zeros ss = run-stays ss (fromV0 echoTable k C) (start-stays (replicate C 0) (length-replicate C 0) (λ p h. getD-replicate C p 0 0 h))
 
     never : (ss : List Step) → Never k d (fromV0 echoTable k C) ss
@@ -219,7 +212,7 @@ module _ (k : ℕ) (d : Design) (u v : List ℕ) (l : length u ≡ size (d .boar
   unfolding sent sentAt
   same-sent m h = same-at _ (unfold size in omega arith)
 
-  same-rcvd : (p m : ℕ) → p < d .boards → m < d .types → rcvdOf k d (u ++ v) p m ≡ rcvdOf k d u p m
+  same-rcvd : (p m : ℕ) → p < d .boards → m < d .types → rcvdIn k d (u ++ v) p m ≡ rcvdIn k d u p m
   unfolding cell
   same-rcvd p m hp hm = coll-same k (d .boards) (d .faulty) _ _ (λ e he. same-at (cellAt (d .boards) (d .types) (wide k) p m e) (unfold size sentAt in omega (arith, cell-below (d .boards) (d .types) (wide k) p m e hp hm he)))
 
@@ -253,10 +246,13 @@ module _ (b standing : List ℕ) (B : InV0 echoTable b standing) where
       go (front e) = sym (use-front b standing refl (λ z. let q : _≡_ {A = ℕ} 0 51 = ap length (ap (λ (x : ℕ). take x b) (sym z) ∙ e) in omega arith)) ∙ e
 
   abbrev design : Design
-  design = designOf (sizesOf echoTable b) echoTable
+  design = designWith echoTable b
+
+  abbrev level : ℕ
+  level = levelOf (formOf b)
 
   abbrev left : List ℕ
-  left = ranWith echoTable b .words
+  left = ranWith echoTable b .left
 
   module _ (z : readFault b standing .number ≡ 0) where
     read : Read echoTable b
@@ -265,22 +261,22 @@ module _ (b standing : List ℕ) (B : InV0 echoTable b standing) where
     admits : Admits echoTable (correctOf b) (fOf b) (tOf b)
     admits = record { enough = omega (arith, read .admitted .enough, read .all); faulty = read .admitted .faulty }
 
-    left-stays : Stays (formOf b) (correctOf b) (fOf b) (tOf b) left
+    left-stays : Stays level (correctOf b) (fOf b) (tOf b) left
     unfolding ranWith
     left-stays =
-        run-stays (formOf b) (correctOf b) (fOf b) (tOf b) admits (scheduleOf b) _
-        (start-stays (formOf b) (correctOf b) (fOf b) (tOf b) (startsOf b) (read .parted .starts-long) (B .starts))
+        run-stays level (correctOf b) (fOf b) (tOf b) admits (scheduleOf b) _
+        (start-stays level (correctOf b) (fOf b) (tOf b) (startsOf b) (read .parted .starts-long) (B .starts))
 
-    left-quiet : (v : List ℕ) → Quiet (formOf b) design (left ++ v)
-    left-quiet v = quiet-past (formOf b) design left v (left-stays .long) (quiet (formOf b) (correctOf b) (fOf b) (tOf b) left left-stays)
+    left-quiet : (v : List ℕ) → Quiet level design (left ++ v)
+    left-quiet v = quiet-past level design left v (left-stays .long) (quiet level (correctOf b) (fOf b) (tOf b) left left-stays)
 
-    left-rule : (s : Step) → stepFault (formOf b) design left s ≡ 0 → s .rule ≡ 0
-    left-rule s = step-rule (formOf b) (correctOf b) (fOf b) (tOf b) admits left s left-stays
+    left-rule : (s : Step) → stepFault level design left s ≡ 0 → s .rule ≡ 0
+    left-rule s = step-rule level (correctOf b) (fOf b) (tOf b) admits left s left-stays
 
   -- ---- `run`
   module _ (words : List ℕ) (c : Configures (runAnswer b standing (length words) .refusal)) where
     abbrev Claim : Type 0
-    Claim = Quiet (formOf b) (designIn b standing) (runWords b standing words)
+    Claim = Quiet level (designIn b standing) (runWords b standing words)
 
     answered : {a : Answer} → a ≡ runAnswer b standing (length words) → Configures (a .refusal)
     answered e = subst⁻¹ (λ (a : Answer). Configures (a .refusal)) e c
@@ -288,33 +284,41 @@ module _ (b standing : List ℕ) (B : InV0 echoTable b standing) where
     runs : Claim
     runs = go (ℕ-discrete (readFault b standing .number) 0)
       where
-        long : readFault b standing .number ≡ 0 → Dec (length words < roomOf (sizesOf echoTable b)) → Claim
-        long z (yes l) = absurd (not-thirty (answered (enter-short b standing words refl z (sym in-use) refl refl l refl .answer)))
+        long : readFault b standing .number ≡ 0 → Dec (length words < roomOf (sizesIn b standing)) → Claim
+        long z (yes l) = absurd (not-thirty (answered (enter-short b standing words z refl l refl .answer)))
         long z (no l) =
-            let E = enter-run b standing words refl z (sym in-use) refl refl (omega arith) refl refl in
-            subst⁻¹ (λ (x : List ℕ). Quiet (formOf b) (designOf (sizesOf x b) x) (runWords b standing words)) in-use
-            (subst (Quiet (formOf b) design) (E .words) (left-quiet z _))
+            let v = drop (roomOf (sizesIn b standing)) words in
+            subst (Quiet level (designIn b standing)) (enter-run b standing words z refl (omega arith) refl refl .words)
+            (subst⁻¹ (λ (x : List ℕ). Quiet level (designWith x b) (ranWith x b .left ++ v)) in-use (left-quiet z v))
 
         go : Dec (readFault b standing .number ≡ 0) → Claim
-        go (no n) = absurd (no-others (answered (enter-refused b standing words refl n refl .answer)) n (read-within (tableInUse b standing) b .number))
-        go (yes z) = long z (decLt (length words) (roomOf (sizesOf echoTable b)))
+        go (no n) = absurd (no-others (answered (enter-refused b standing words n refl .answer)) n (read-within (tableInUse b standing) b .number))
+        go (yes z) = long z (decLt (length words) (roomOf (sizesIn b standing)))
 
   -- ---- `first_step`
-  module _ (p r m q : ℕ) (h : firstAnswer b standing ≡ First.Step p r m q) where
-    after-run : readFault b standing .number ≡ 0 → answerOf (first (formOf b) design left) ≡ First.Step p r m q
-    unfolding afterRun
-    after-run z = if-passed (λ (a : First). a ≡ First.Step p r m q) _ _ _ (refused-no-step _ _ p r m q) (first-read b standing refl z (sym in-use) refl ∙ h) .1
+  unread : (readFault b standing .number ≡ 0 → ⊥) → First.Refused (readFault b standing .number) (readFault b standing .place) ≡ firstAnswer b standing
+  unfolding firstAnswer
+  unread n = if-yes _ refl refl (ap not (ne-eqb _ 0 n))
 
-    named : readFault b standing .number ≡ 0 → (x : Found) → first (formOf b) design left ≡ x → answerOf x ≡ First.Step p r m q → r ≡ 0
+  read-on : readFault b standing .number ≡ 0 → afterRun echoTable b ≡ firstAnswer b standing
+  unfolding firstAnswer
+  read-on z = ap (λ (x : List ℕ). afterRun x b) (sym in-use) ∙ if-no _ refl (ap not (eq-eqb _ 0 z)) refl
+
+  module _ (p r m q : ℕ) (h : firstAnswer b standing ≡ First.Step p r m q) where
+    after-run : readFault b standing .number ≡ 0 → answerOf (first level design left) ≡ First.Step p r m q
+    unfolding afterRun
+    after-run z = if-passed (λ (a : First). a ≡ First.Step p r m q) _ _ _ (refused-no-step _ _ p r m q) (read-on z ∙ h) .1
+
+    named : readFault b standing .number ≡ 0 → (x : Found) → first level design left ≡ x → answerOf x ≡ First.Step p r m q → r ≡ 0
     named z none e g = let y : _≡_ {A = ℕ} 0 1 = cc in absurd (omega arith)
-    named z (found s) e g = let y : r ≡ s .rule = cc in y ∙ left-rule z s (first-possible (formOf b) design left .accepted s e)
+    named z (found s) e g = let y : r ≡ s .rule = cc in y ∙ left-rule z s (first-possible level design left .accepted s e)
 
     firsts : r ≡ 0
     firsts = go (ℕ-discrete (readFault b standing .number) 0)
       where
         go : Dec (readFault b standing .number ≡ 0) → r ≡ 0
         go (yes z) = named z _ refl (after-run z)
-        go (no n) = absurd (refused-no-step _ _ p r m q (first-refused b standing refl n ∙ h))
+        go (no n) = absurd (refused-no-step _ _ p r m q (unread n ∙ h))
 
 no-echo : NoEcho echoTable
 no-echo = record { never = never; runs = λ b standing words B. runs b standing B words; firsts = firsts }

@@ -17,23 +17,23 @@ use Rattle.bundle.specs.Refusals.{readFault}
 use Rattle.bundle.proofs.BundleLaws.{read-by}
 use Rattle.paper.specs.Paper.{Design, Step, silent}
 use Rattle.paper.specs.Form.{shown}
-use Rattle.paper.specs.Step.{sentOf, stepFault, stepped}
+use Rattle.paper.specs.Step.{sentIn, stepFault, stepped}
 use Rattle.paper.specs.Run.{run, after}
 use Rattle.paper.proofs.StepLaws.{accepted}
 use Rattle.agree.specs.Translation.{tagOf, withSource, tagged, lowSender, moved}
-use Rattle.agree.specs.Picture.{Kept, Pictured}
+use Rattle.agree.specs.Picture.{Remembers, Pictured}
 use Rattle.agree.proofs.Columns.{tag-only}
 use Rattle.agree.proofs.Agree.{tagged-silent, tagged-message, lowest-silent, lowest-message, low-is, forward, backward}
-use Rattle.engine.specs.Entry.{designIn}
+use Rattle.engine.specs.Design.{designIn}
 use Rattle.translate.proofs.ReadLaws.{kept}
 use Rattle.claims.specs.Agreed.{beginIn}
 use Rattle.claims.specs.Plain.{Reached, SoAgree, PlainStep, TagTaken, PlainCounter}
 use Rattle.claims.proofs.Agreed.{all-agreed}
 
 -- ---- none that is sent is faulty
-sent-sum : (d : Design) (w : List ℕ) (m : ℕ) → sentOf 1 d w m .correct + sentOf 1 d w m .faulty ≡ sentOf 1 d w m .correct
+sent-sum : (d : Design) (w : List ℕ) (m : ℕ) → sentIn 1 d w m .correct + sentIn 1 d w m .faulty ≡ sentIn 1 d w m .correct
 unfolding shown
-sent-sum d w m = add-zero (sentOf 1 d w m .correct)
+sent-sum d w m = add-zero (sentIn 1 d w m .correct)
 
 -- ---- words that are reached: some picture of them has what their form keeps
 module _ (b standing : List ℕ) (z : readFault b standing .number ≡ 0) where
@@ -45,7 +45,7 @@ module _ (b standing : List ℕ) (z : readFault b standing .number ≡ 0) where
       let F = all-agreed b standing z .everywhere k (R .steps) (R .runs) in
       let n = length (R .steps) in
       let e : after k d (beginIn k b standing) (moved k k d (λ i. beginIn i b standing) (R .steps)) n ≡ w =
-      ap (λ (x : List Step). after k d (beginIn k b standing) x n) (F .own) ∙ ap (λ (x : List Step). run k d (beginIn k b standing) x .words) (take-length (R .steps)) ∙ R .words in
+      ap (λ (x : List Step). after k d (beginIn k b standing) x n) (F .own) ∙ ap (λ (x : List Step). run k d (beginIn k b standing) x .left) (take-length (R .steps)) ∙ R .words in
       let u = after (suc k) d (beginIn (suc k) b standing) (moved k (suc k) d (λ i. beginIn i b standing) (R .steps)) n in
       (u, subst (λ (x : List ℕ). Pictured k d x u) e (F .pictured k n))
 
@@ -62,7 +62,7 @@ module _ (b standing : List ℕ) (z : readFault b standing .number ≡ 0) where
       }
 
 -- ---- a step
-module _ (d : Design) (K : Kept d) (w v : List ℕ) (X : Pictured 1 d w v) where
+module _ (d : Design) (K : Remembers d) (w v : List ℕ) (X : Pictured 1 d w v) where
   so-agree : {w v : List ℕ} → Pictured 1 d w v → SoAgree d w v
   so-agree {w} P = record { states = P .states; sums = P .rcvds; sents = λ m hm. P .sents m hm ∙ sent-sum d w m }
 

@@ -5,13 +5,12 @@ use mathlib.Core.Path.{_≡_}
 use mathlib.Core.List.{List, map}
 use Prim.Native.Nat.{ℕ, suc}
 use Rattle.bundle.specs.Refusals.{readFault}
-use Rattle.bundle.specs.Bundle.{tableInUse}
 use Rattle.paper.specs.Paper.{Design, Step}
 use Rattle.paper.specs.Run.{run, after}
 use Rattle.agree.specs.Translation.{tagged, lowAll}
 use Rattle.agree.specs.Picture.{Pictured}
 use Rattle.agree.specs.Agreement.{RunThere, RunBack, InAllForms}
-use Rattle.engine.specs.Entry.{designIn}
+use Rattle.engine.specs.Design.{designIn, sizesIn}
 use Rattle.translate.specs.Written.{beginOf}
 use Rattle.claims.specs.FirstStep.{FirstAgreed}
 
@@ -27,7 +26,7 @@ pub record Agreed (j : ℕ) (d : Design) (w v : List ℕ) : Type 0 where
 -- ---- a bundle that is read
 -- its first configuration in form k, whatever form it is in itself
 abbrev pub beginIn : ℕ → List ℕ → List ℕ → List ℕ
-beginIn k b standing = beginOf (tableInUse b standing) b k
+beginIn k b standing = beginOf (sizesIn b standing) b k
 
 pub record AllAgreed (b standing : List ℕ) : Type 0 where
   pub neighbours : (j : ℕ) → Agreed j (designIn b standing) (beginIn j b standing) (beginIn (suc j) b standing)

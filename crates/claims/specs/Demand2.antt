@@ -5,13 +5,13 @@ use mathlib.Core.List.{List}
 use Prim.Native.Nat.{ℕ, suc, _<_}
 use lib.ListN.{length}
 use Rattle.bundle.specs.Refusals.{readFault}
-use Rattle.bundle.specs.Bundle.{tableInUse}
 use Rattle.paper.specs.Paper.{Design, Conf, Step, Moves, Same, Initial}
 use Rattle.paper.specs.Words.{size}
 use Rattle.paper.specs.Form.{wide}
 use Rattle.paper.specs.Step.{columnOf, view, stepFault, stepped}
 use Rattle.paper.specs.Run.{Ran, run, stepAt, after}
-use Rattle.engine.specs.Entry.{sizesIn, designIn, startOf, scheduleOf, ranOf}
+use Rattle.engine.specs.Design.{sizesIn, designIn}
+use Rattle.engine.specs.Entry.{startIn, scheduleOf, ranOf}
 
 -- ---- one step, in form k, from words that are a configuration
 abbrev pub Sized : ℕ → Design → List ℕ → Type 0
@@ -35,20 +35,20 @@ pub record RunMoves (k : ℕ) (d : Design) (w : List ℕ) (ss : List Step) (r : 
   -- each accepted step is a move, from the words after the steps before it
   pub each : (i : ℕ) → i < r .accepted → Moves d (columnOf k d) (stepAt ss i) (view k d (after k d w ss i)) (view k d (after k d w ss (suc i)))
   -- what is left are the words after the accepted steps
-  pub left : r .words ≡ after k d w ss (r .accepted)
+  pub left : r .left ≡ after k d w ss (r .accepted)
   -- no refusal: every step was accepted
   pub whole : r .refusal ≡ 0 → r .accepted ≡ length ss
   -- a refusal: it is that of the next step, for which the relation holds to no configuration
   pub next : (r .refusal ≡ 0 → ⊥) → r .accepted < length ss
-  pub number : (r .refusal ≡ 0 → ⊥) → r .refusal ≡ stepFault k d (r .words) (stepAt ss (r .accepted))
-  pub stuck : (r .refusal ≡ 0 → ⊥) → (σ : Conf (columnOf k d .Coll)) → Moves d (columnOf k d) (stepAt ss (r .accepted)) (view k d (r .words)) σ → ⊥
+  pub number : (r .refusal ≡ 0 → ⊥) → r .refusal ≡ stepFault k d (r .left) (stepAt ss (r .accepted))
+  pub stuck : (r .refusal ≡ 0 → ⊥) → (σ : Conf (columnOf k d .Coll)) → Moves d (columnOf k d) (stepAt ss (r .accepted)) (view k d (r .left)) σ → ⊥
 
 -- ---- a bundle that is read, beside its standing table, as `run` sees it
 pub record BundleMoves (b standing : List ℕ) : Type 0 where
   -- it starts in an initial configuration of the paper
-  pub begins : Initial (designIn b standing) (columnOf (sizesIn b standing .form) (designIn b standing)) (view (sizesIn b standing .form) (designIn b standing) (startOf (tableInUse b standing) b))
+  pub begins : Initial (designIn b standing) (columnOf (sizesIn b standing .level) (designIn b standing)) (view (sizesIn b standing .level) (designIn b standing) (startIn (sizesIn b standing) b))
   -- and its run is one of moves
-  pub runs : RunMoves (sizesIn b standing .form) (designIn b standing) (startOf (tableInUse b standing) b) (scheduleOf b) (ranOf b standing)
+  pub runs : RunMoves (sizesIn b standing .level) (designIn b standing) (startIn (sizesIn b standing) b) (scheduleOf b) (ranOf b standing)
 
 pub record Demand2 : Type 0 where
   pub steps : (k : ℕ) (d : Design) (w : List ℕ) (s : Step) → Sized k d w → StepMoves k d w s

@@ -8,18 +8,20 @@ use Prim.Native.Nat.{ℕ, suc, _≤_, _<_}
 use lib.ListN.{length, drop}
 use Rattle.fault.specs.Fault.{refused, nothingDone}
 use Rattle.fault.specs.declared.Answer.{Answer}
-use Rattle.bundle.specs.Bundle.{nOf, tOf, fOf, formOf, tableInUse, startsOf}
+use Rattle.bundle.specs.Bundle.{nOf, tOf, fOf, formOf, tableInUse, startsOf, levelOf}
 use Rattle.bundle.specs.Refusals.{readFault}
 use Rattle.paper.specs.Paper.{Design}
 use Rattle.paper.specs.Words.{state}
-use Rattle.paper.specs.Step.{columnOf, sentOf, countOf}
+use Rattle.paper.specs.Step.{columnOf, sentIn, countOf}
 use Rattle.paper.specs.Run.{after}
 use Rattle.agree.specs.Translation.{tagged, lowest}
 use Rattle.agree.specs.Picture.{Pictured}
-use Rattle.engine.specs.Entry.{designIn, startOf, scheduleOf, ranOf, runAnswer}
+use Rattle.engine.specs.Design.{designIn, sizesIn}
+use Rattle.engine.specs.Entry.{startIn, scheduleOf, ranOf, runAnswer}
 use Rattle.translate.specs.Entry.{translationOf, noOther, translateToAnswer, translateToBytes, usual, translateAnswer}
-use Rattle.first_step.specs.First.{Found, none, found, first}
+use Rattle.paper.specs.Order.{Found, none, found, first}
 use Rattle.first_step.specs.Entry.{answerOf, firstAnswer}
+use Rattle.words.specs.Facts.{mostWords}
 
 -- a bundle runs: it is read, and no step is refused
 pub record Runs (b standing : List ℕ) : Type 0 where
@@ -28,13 +30,13 @@ pub record Runs (b standing : List ℕ) : Type 0 where
 
 -- the words after the first i steps of its schedule
 abbrev pub afterIn : List ℕ → List ℕ → ℕ → List ℕ
-afterIn b standing i = after (formOf b) (designIn b standing) (startOf (tableInUse b standing) b) (scheduleOf b) i
+afterIn b standing i = after (levelOf (formOf b)) (designIn b standing) (startIn (sizesIn b standing) b) (scheduleOf b) i
 
--- words w of form i and words v of form k: equal states, equal counts of each type, whatever they are made of, equal sent counts
+-- words w of level i and words v of level k: equal states, equal counts of each type, whatever they are made of, equal sent counts
 pub record Alike (d : Design) (i : ℕ) (w : List ℕ) (k : ℕ) (v : List ℕ) : Type 0 where
   pub states : (p : ℕ) → p < d .boards → state w p ≡ state v p
   pub counts : (p m : ℕ) → p < d .boards → m < d .types → countOf i d w p m ≡ countOf k d v p m
-  pub sents : (m : ℕ) → m < d .types → columnOf i d .card (sentOf i d w m) ≡ columnOf k d .card (sentOf k d v m)
+  pub sents : (m : ℕ) → m < d .types → columnOf i d .card (sentIn i d w m) ≡ columnOf k d .card (sentIn k d v m)
 
 -- ---- a bundle b that runs, and its translation c to the form k
 pub record Translated (b standing : List ℕ) (k : ℕ) (c : List ℕ) : Type 0 where
@@ -51,7 +53,7 @@ pub record Translated (b standing : List ℕ) (k : ℕ) (c : List ℕ) : Type 0 
   pub form : formOf c ≡ k
   -- it runs to its end, alike after every number of steps
   pub runs : Runs c standing
-  pub alike : (i : ℕ) → Alike (designIn b standing) (formOf b) (afterIn b standing i) k (afterIn c standing i)
+  pub alike : (i : ℕ) → Alike (designIn b standing) (levelOf (formOf b)) (afterIn b standing i) (levelOf k) (afterIn c standing i)
   -- to a finer form and back: the same bytes
   pub back : k < formOf b → translationOf c standing (formOf b) ≡ b
 
@@ -67,8 +69,8 @@ lowestFound j d w (found s) = found (lowest j d w s)
 
 pub record Neighbours (j : ℕ) (d : Design) (standing c e : List ℕ) : Type 0 where
   pub pictured : (i : ℕ) → Pictured j d (afterIn c standing i) (afterIn e standing i)
-  pub first-there : firstAnswer e standing ≡ answerOf (taggedFound j d (first j d (ranOf c standing .words)))
-  pub first-back : firstAnswer c standing ≡ answerOf (lowestFound j d (ranOf c standing .words) (first (suc j) d (ranOf e standing .words)))
+  pub first-there : firstAnswer e standing ≡ answerOf (taggedFound j d (first j d (ranOf c standing .left)))
+  pub first-back : firstAnswer c standing ≡ answerOf (lowestFound j d (ranOf c standing .left) (first (suc j) d (ranOf e standing .left)))
 
 -- ---- a bundle that is refused, with the answer a
 pub record Refuses (b standing : List ℕ) (k : ℕ) (out : List ℕ) (a : Answer) : Type 0 where
@@ -82,10 +84,10 @@ pub record Demand3 : Type 0 where
   pub neighbours : (b standing : List ℕ) (j : ℕ) → Runs b standing → j ≤ 1 → Neighbours j (designIn b standing) standing (translationOf b standing j) (translationOf b standing (suc j))
   -- 31 comes after what reading refuses, and before 30 and the steps
   pub no-other : (b standing : List ℕ) (k : ℕ) (out : List ℕ) → readFault b standing .number ≡ 0 → noOther b k ≡ true → Refuses b standing k out (nothingDone (refused 31))
-  -- 580 words are enough for every bundle (64 states, 64 · 4 pairs of counts, 4 sent): it runs exactly when `run` refuses nothing
-  pub runs : (b standing : List ℕ) (lent : ℕ) → 580 ≤ lent → runAnswer b standing lent .refusal ≡ 0 → Runs b standing
-  pub runs-all : (b standing : List ℕ) (lent : ℕ) → 580 ≤ lent → Runs b standing → runAnswer b standing lent .refusal ≡ 0
-  pub refused : (b standing : List ℕ) (k : ℕ) (out : List ℕ) (lent : ℕ) → 580 ≤ lent → length b ≤ length out → noOther b k ≡ false → (runAnswer b standing lent .refusal ≡ 0 → ⊥)
+  -- the most words that a configuration has are enough for every bundle: it runs exactly when `run` refuses nothing
+  pub runs : (b standing : List ℕ) (lent : ℕ) → mostWords ≤ lent → runAnswer b standing lent .refusal ≡ 0 → Runs b standing
+  pub runs-all : (b standing : List ℕ) (lent : ℕ) → mostWords ≤ lent → Runs b standing → runAnswer b standing lent .refusal ≡ 0
+  pub refused : (b standing : List ℕ) (k : ℕ) (out : List ℕ) (lent : ℕ) → mostWords ≤ lent → length b ≤ length out → noOther b k ≡ false → (runAnswer b standing lent .refusal ≡ 0 → ⊥)
       → Refuses b standing k out (runAnswer b standing lent)
   -- any refusal, also for want of room, writes nothing
   pub untouched : (b standing : List ℕ) (k : ℕ) (out : List ℕ) → (translateToAnswer b standing k (length out) .refusal ≡ 0 → ⊥)

@@ -11,13 +11,13 @@ use Rattle.fault.specs.Bytes.{byteAt}
 use Rattle.fault.specs.Tests.{_atMost_}
 use Rattle.fault.specs.Fault.{refused, nothingDone, _if_else_}
 use Rattle.table.specs.Table.{statesOf, rulesOf, typesOf, factorOf}
-use Rattle.table.specs.Refusals.{tableFault}
+use Rattle.table.specs.Refusals.{countsOutside, tableFault}
 use Rattle.dot.specs.Text.{isBlank, Piece, space, Spaced, tableText, drawingOf}
 use Rattle.dot.specs.Plan.{header}
 use Rattle.dot.specs.Reading.{none, nothingRead}
 use Rattle.dot.specs.Drawing.{Tokens, Drawing, Begins, Exact}
 use Rattle.dot.specs.Blanks.{reach, BetweenAt, beginsBlank, beginsDigit, endsDigit, Gap}
-use Rattle.drawing.specs.Entry.{trailerOf, strange, drawAnswer, drawBytes, undrawAnswer, undrawBytes}
+use Rattle.drawing.specs.Entry.{trailerFor, drawAnswer, drawBytes, undrawAnswer, undrawBytes}
 
 -- a call that answers and leaves lent bytes gives w: into any bytes that are enough, and those past it stay; into fewer nothing, with 61
 pub record Gives (answer : ℕ → Answer) (bytes : List ℕ → List ℕ) (w : List ℕ) : Type 0 where
@@ -51,16 +51,16 @@ pub record NoDrawing (t : List ℕ) : Type 0 where
 -- ---- a drawing d
 -- the table that it draws
 abbrev pub tableIn : {t : List ℕ} → Drawing t → List ℕ
-tableIn d = d .body ++ trailerOf (d .states) (d .rules) (d .types) (d .factor)
+tableIn d = d .body ++ trailerFor (d .states) (d .rules) (d .types) (d .factor)
 
 pub record Answered (t : List ℕ) (d : Drawing t) : Type 0 where
   -- 2 where a count or k is none of a table
-  pub counts : strange (d .states) (d .rules) (d .types) (d .factor) ≡ true → (lent : ℕ) → undrawAnswer t lent ≡ nothingDone (refused 2)
+  pub counts : countsOutside (d .states) (d .rules) (d .types) (d .factor) ≡ true → (lent : ℕ) → undrawAnswer t lent ≡ nothingDone (refused 2)
   -- else what the table is refused for
-  pub off : strange (d .states) (d .rules) (d .types) (d .factor) ≡ false → (tableFault (tableIn d) .number ≡ 0 → ⊥) →
+  pub off : countsOutside (d .states) (d .rules) (d .types) (d .factor) ≡ false → (tableFault (tableIn d) .number ≡ 0 → ⊥) →
       (lent : ℕ) → undrawAnswer t lent ≡ nothingDone (tableFault (tableIn d))
   -- else the table
-  pub table : strange (d .states) (d .rules) (d .types) (d .factor) ≡ false → tableFault (tableIn d) .number ≡ 0 →
+  pub table : countsOutside (d .states) (d .rules) (d .types) (d .factor) ≡ false → tableFault (tableIn d) .number ≡ 0 →
       Gives (undrawAnswer t) (undrawBytes t) (tableIn d)
   -- its trailer is always right, and it is a drawing
   pub never-1 : (lent : ℕ) → undrawAnswer t lent .refusal ≡ 1 → ⊥
@@ -69,7 +69,7 @@ pub record Answered (t : List ℕ) (d : Drawing t) : Type 0 where
 
 -- ---- blanks
 -- two texts are undrawn alike
-pub record Alike (t u : List ℕ) : Type 0 where
+pub record SameAnswer (t u : List ℕ) : Type 0 where
   pub answer : (lent : ℕ) → undrawAnswer t lent ≡ undrawAnswer u lent
   pub bytes : (out : List ℕ) → undrawBytes t out ≡ undrawBytes u out
 
@@ -97,7 +97,7 @@ pub record Drawings : Type 0 where
   -- Q-1: a drawing is answered as the table that it draws
   pub drawing : (t : List ℕ) (d : Drawing t) → Answered t d
   -- Q-1: blanks added between tokens change no answer of a drawing
-  pub same-tokens : (t u : List ℕ) (T k n m : ℕ) (s : List ℕ) → Tokens t T k n m s → Tokens u T k n m s → Alike t u
+  pub same-tokens : (t u : List ℕ) (T k n m : ℕ) (s : List ℕ) → Tokens t T k n m s → Tokens u T k n m s → SameAnswer t u
   -- Q-1: and of no text more than the place of a fault that comes after them, where two tokens meet and no number is parted
   pub blank : (p q : List ℕ) (c : ℕ) → isBlank c ≡ true → Gap p → (endsDigit p && beginsDigit q) ≡ false → Inserted p q c
   -- and two tokens meet wherever a drawing has a gap: after the pieces a, whose text is p, and before the pieces b, whose text is u
@@ -106,7 +106,7 @@ pub record Drawings : Type 0 where
   -- the same by the plan, which also tells digits that are no part of a number, as the 6 of 256
   pub blank-by-plan : (p q : List ℕ) (c : ℕ) → isBlank c ≡ true → BetweenTokens p q → Inserted p q c
   -- after a fault nothing matters
-  pub after-fault : (p q u : List ℕ) → (Begins p → ⊥) → Alike (p ++ q) (p ++ u)
+  pub after-fault : (p q u : List ℕ) → (Begins p → ⊥) → SameAnswer (p ++ q) (p ++ u)
   -- a table that is refused is not drawn, with its own number and place
   pub draw-refused : (s : List ℕ) → (tableFault s .number ≡ 0 → ⊥) → (lent : ℕ) → drawAnswer s lent ≡ nothingDone (tableFault s)
   -- any refusal writes nothing

@@ -6,9 +6,8 @@ use lib.ListN.{length, replicate}
 use lib.IntN.{ℤ, pos, negsuc}
 use Rattle.threshold.specs.Threshold.{thresholdOf}
 use Rattle.fault.specs.Fault.{verdict}
-use Rattle.table.specs.Table.{coefficientsAt}
 use Rattle.bundle.specs.Refusals.{readFault}
-use Rattle.rules.specs.Design.{thresholdAt}
+use Rattle.rules.specs.Design.{thresholdFor}
 use Rattle.engine.specs.Entry.{runAnswer, runWords}
 use Rattle.translate.specs.Entry.{translateAnswer, translateBytes, translateToAnswer, translateToBytes}
 use Rattle.first_step.specs.declared.First.{First}
@@ -39,7 +38,7 @@ pub data Case : Type 0 where
 
 abbrev pub Holds : Case → Type 0
 Holds (comesTo a b d n t z) = thresholdOf a b d n t ≡ z
-Holds (asks table r m n t z) = thresholdAt table (coefficientsAt table r m) n t ≡ z
+Holds (asks table r m n t z) = thresholdFor table r m n t ≡ z
 Holds (reads b standing k p) = readFault b standing ≡ verdict k p
 Holds (runs b standing k p i words) =
     (runAnswer b standing (length words) ≡ record { refusal = k; place = p; count = i }) × (runWords b standing (replicate (length words) 9) ≡ words)
@@ -93,6 +92,10 @@ leaves t p = undraws t 60 p 0 (9 ∷ [])
 
 abbrev refuses : List ℕ → ℕ → ℕ → Case
 refuses t k p = undraws t k p 0 (9 ∷ [])
+
+-- where rule 1 asks for t in place of t + 1, a faulty echo alone brings board 0 from V0 to SE
+abbrev pub oneEnough : Case
+oneEnough = runs (oneEcho 1 0 3) (asking 0) 0 0 1 (2 ∷ 0 ∷ 0 ∷ 8 ∷ 0 ∷ 0 ∷ 1 ∷ [])
 
 abbrev pub cases : List Case
 cases =
@@ -194,7 +197,7 @@ cases =
     runs (oneEcho 1 1 1) echo 25 0 0 (0 ∷ 0 ∷ 0 ∷ 0 ∷ 0 ∷ 0 ∷ 0 ∷ 0 ∷ 0 ∷ 0 ∷ []) ∷
     runs (oneEcho 1 2 0) echo 25 0 0 (0 ∷ 0 ∷ 0 ∷ 0 ∷ 0 ∷ 0 ∷ 0 ∷ []) ∷
     -- where rule 1 asks for t in place of t + 1, the same step is accepted in every form: board 0 is in SE, and one echo is sent
-    runs (oneEcho 1 0 3) (asking 0) 0 0 1 (2 ∷ 0 ∷ 0 ∷ 8 ∷ 0 ∷ 0 ∷ 1 ∷ []) ∷
+    oneEnough ∷
     runs (oneEcho 1 1 1) (asking 0) 0 0 1 (2 ∷ 0 ∷ 0 ∷ 0 ∷ 1 ∷ 0 ∷ 0 ∷ 0 ∷ 0 ∷ 1 ∷ []) ∷
     runs (oneEcho 1 2 0) (asking 0) 0 0 1 (2 ∷ 0 ∷ 0 ∷ 1 ∷ 0 ∷ 0 ∷ 1 ∷ []) ∷
     -- after that wait the next board may hear the faulty echo; where rule 1 asks for t, board 0 goes to SE by itself

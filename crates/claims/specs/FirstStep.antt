@@ -7,7 +7,7 @@ use Prim.Native.Nat.{ℕ, suc, _<_}
 use Rattle.paper.specs.Paper.{Design, Step, silent}
 use Rattle.paper.specs.Step.{stepFault}
 use Rattle.agree.specs.Translation.{tagged, lowest}
-use Rattle.first_step.specs.First.{none, found, isWait, first}
+use Rattle.paper.specs.Order.{none, found, isWait, first}
 
 -- ---- the outline's order: by board, then rule, then no message before type 0, 1, .. and source 0, 1, .. within a type
 pub data EarlierMessage (s t : Step) : Type 0 where

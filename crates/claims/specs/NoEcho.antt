@@ -6,14 +6,15 @@ use Prim.Native.Nat.{ℕ, _+_, _*_, _≤_, _<_}
 use lib.ListN.{length, take, set, replicate}
 use Rattle.fault.specs.Bytes.{byteAt}
 use Rattle.table.specs.Table.{rulesOf, typesOf, factorOf}
-use Rattle.bundle.specs.Bundle.{formOf, correctOf, frontLength, startsOf}
+use Rattle.bundle.specs.Bundle.{formOf, correctOf, frontLength, startsOf, levelOf}
 use Rattle.paper.specs.Paper.{Design, Step}
 use Rattle.paper.specs.Words.{state, sent, start}
 use Rattle.paper.specs.Form.{wide}
-use Rattle.paper.specs.Step.{columnOf, sentOf, countOf, stepFault}
+use Rattle.paper.specs.Step.{columnOf, sentIn, countOf, stepFault}
 use Rattle.paper.specs.Run.{run, after}
 use Rattle.rules.specs.Design.{designOf}
-use Rattle.engine.specs.Entry.{designIn, runAnswer, runWords}
+use Rattle.engine.specs.Design.{designIn}
+use Rattle.engine.specs.Entry.{runAnswer, runWords}
 use Rattle.first_step.specs.declared.First.{First}
 use Rattle.first_step.specs.Entry.{firstAnswer}
 use Rattle.echo.specs.Echo.{echo}
@@ -32,12 +33,12 @@ pub record Quiet (k : ℕ) (d : Design) (w : List ℕ) : Type 0 where
   -- every board is in V0, which is state 0
   pub states : (p : ℕ) → p < d .boards → state w p ≡ 0
   -- nothing is sent: by the paper's collection, and by its word
-  pub sents : (m : ℕ) → m < d .types → sentOf k d w m ≡ columnOf k d .init
+  pub sents : (m : ℕ) → m < d .types → sentIn k d w m ≡ columnOf k d .init
   pub sent-words : (m : ℕ) → m < d .types → sent (d .boards) (d .types) (wide k) w m ≡ 0
   -- no board counts more than f messages, which is what the faulty ones can make up
   pub counts : (p m : ℕ) → p < d .boards → m < d .types → countOf k d w p m ≤ d .faulty
 
--- ---- about the definitions: C correct and f faulty boards, in form k
+-- ---- about the definitions: C correct and f faulty boards, at level k
 -- n, t, f are admitted (outline, "Bundle layout"), where n is C + f; there is no need that n is at most 64
 pub record Admits (table : List ℕ) (C f t : ℕ) : Type 0 where
   pub enough : factorOf table * t < C + f
@@ -45,7 +46,7 @@ pub record Admits (table : List ℕ) (C f t : ℕ) : Type 0 where
 
 abbrev pub designFor : List ℕ → ℕ → ℕ → ℕ → ℕ → Design
 designFor table k C f t =
-    designOf (record { form = k; correct = C; faulty = f; t = t; types = typesOf table; rules = rulesOf table; wide = wide k; row = typesOf table * wide k }) table
+    designOf (record { level = k; correct = C; faulty = f; types = typesOf table; rules = rulesOf table; wide = wide k; row = typesOf table * wide k }) t table
 
 -- the start of all boards in V0
 abbrev pub fromV0 : List ℕ → ℕ → ℕ → List ℕ
@@ -55,9 +56,9 @@ fromV0 table k C = start (typesOf table) (wide k) (replicate C 0)
 pub record Never (k : ℕ) (d : Design) (w : List ℕ) (ss : List Step) : Type 0 where
   -- after each number of steps, and with what the whole run leaves
   pub reached : (i : ℕ) → Quiet k d (after k d w ss i)
-  pub left : Quiet k d (run k d w ss .words)
+  pub left : Quiet k d (run k d w ss .left)
   -- where the only rule that can follow is rule 0, the wait in V0
-  pub waits : (s : Step) → stepFault k d (run k d w ss .words) s ≡ 0 → s .rule ≡ 0
+  pub waits : (s : Step) → stepFault k d (run k d w ss .left) s ≡ 0 → s .rule ≡ 0
 
 -- ---- about the calls
 -- the table in use: the front, or the standing table beside an empty front
@@ -80,7 +81,7 @@ pub record NoEcho (table : List ℕ) : Type 0 where
   pub never : (k C f t : ℕ) → Admits table C f t → (ss : List Step) → Never k (designFor table k C f t) (fromV0 table k C) ss
   -- what `run` leaves; every other refusal leaves the lent words as they were (`runWords`)
   pub runs : (b standing words : List ℕ) → InV0 table b standing → Configures (runAnswer b standing (length words) .refusal)
-      → Quiet (formOf b) (designIn b standing) (runWords b standing words)
+      → Quiet (levelOf (formOf b)) (designIn b standing) (runWords b standing words)
   -- `first_step` names no rule but rule 0
   pub firsts : (b standing : List ℕ) → InV0 table b standing → (p r m q : ℕ) → firstAnswer b standing ≡ First.Step p r m q → r ≡ 0
 

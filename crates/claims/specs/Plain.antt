@@ -10,23 +10,23 @@ use Prim.Native.Nat.{ℕ, _+_, _<_}
 use Rattle.bundle.specs.Refusals.{readFault}
 use Rattle.paper.specs.Paper.{Design, Step, silent}
 use Rattle.paper.specs.Words.{state}
-use Rattle.paper.specs.Step.{columnOf, rcvdOf, sentOf, stepFault, stepped}
+use Rattle.paper.specs.Step.{columnOf, rcvdIn, sentIn, stepFault, stepped}
 use Rattle.paper.specs.Run.{run}
 use Rattle.agree.specs.Translation.{withSource, lowSender}
-use Rattle.engine.specs.Entry.{designIn}
+use Rattle.engine.specs.Design.{designIn}
 use Rattle.claims.specs.Agreed.{beginIn}
 
 -- the words w are reached in form k: some schedule runs from the bundle's starts to them
 pub record Reached (k : ℕ) (b standing w : List ℕ) : Type 0 where
   pub steps : List Step
   pub runs : run k (designIn b standing) (beginIn k b standing) steps .refusal ≡ 0
-  pub words : run k (designIn b standing) (beginIn k b standing) steps .words ≡ w
+  pub words : run k (designIn b standing) (beginIn k b standing) steps .left ≡ w
 
 -- counting words w and plain words v so agree
 pub record SoAgree (d : Design) (w v : List ℕ) : Type 0 where
   pub states : (p : ℕ) → p < d .boards → state v p ≡ state w p
-  pub sums : (p m : ℕ) → p < d .boards → m < d .types → rcvdOf 2 d v p m ≡ rcvdOf 1 d w p m .correct + rcvdOf 1 d w p m .faulty
-  pub sents : (m : ℕ) → m < d .types → sentOf 2 d v m ≡ sentOf 1 d w m .correct
+  pub sums : (p m : ℕ) → p < d .boards → m < d .types → rcvdIn 2 d v p m ≡ rcvdIn 1 d w p m .correct + rcvdIn 1 d w p m .faulty
+  pub sents : (m : ℕ) → m < d .types → sentIn 2 d v m ≡ sentIn 1 d w m .correct
 
 -- a step s in form 2, from there
 pub record PlainStep (d : Design) (w v : List ℕ) (s : Step) : Type 0 where
@@ -41,7 +41,7 @@ pub record PlainStep (d : Design) (w v : List ℕ) (s : Step) : Type 0 where
 
 -- the tag that translation takes for a message of form 2, in counting words w
 abbrev pub moving : Design → List ℕ → Step → ℕ → Bool
-moving d w s tag = columnOf 1 d .inTransit tag (rcvdOf 1 d w (s .board) (s .type)) (sentOf 1 d w (s .type))
+moving d w s tag = columnOf 1 d .inTransit tag (rcvdIn 1 d w (s .board) (s .type)) (sentIn 1 d w (s .type))
 
 pub record TagTaken (d : Design) (w : List ℕ) (s : Step) : Type 0 where
   pub correct : moving d w s 0 ≡ true → lowSender 1 d w s ≡ 0

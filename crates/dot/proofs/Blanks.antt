@@ -6,18 +6,18 @@ use mathlib.Core.List.{List, [], _∷_, _++_}
 use lib.ListN.{length}
 use Rattle.dot.specs.Text.{isBlank}
 use Rattle.dot.specs.Plan.{Item, gap, num, one, header}
-use Rattle.dot.specs.Reading.{Num, none, minus, some, canMinus, Read, nothingRead, Step, stuck, at, growing, whole, next, ended, Outcome, drawn, fault, later, onward, run, reading}
+use Rattle.dot.specs.Reading.{Num, none, minus, some, canMinus, Gathered, nothingRead, ByteStep, stuck, at, growing, whole, next, ended, Outcome, drawn, fault, later, onward, run, reading}
 use Rattle.dot.specs.Blanks.{go-on, reach, Between, BetweenAt, moved}
 use Rattle.dot.proofs.Complete.{blank-no-digit}
 
 -- where a gap begins, a number that came before it says nothing
-gap-forgets : (q : List ℕ) (k : List Item) (r : Read) (x : Num) → run q (gap ∷ k) r none ≡ run q (gap ∷ k) r x
+gap-forgets : (q : List ℕ) (k : List Item) (r : Gathered) (x : Num) → run q (gap ∷ k) r none ≡ run q (gap ∷ k) r x
 unfolding run next
 gap-forgets [] k r x = refl
 gap-forgets (d ∷ q) k r x = refl
 
 -- at the place itself
-insert-here : (q : List ℕ) (k : List Item) (r : Read) (x : Num) (c : ℕ) → isBlank c ≡ true → Between k x q →
+insert-here : (q : List ℕ) (k : List Item) (r : Gathered) (x : Num) (c : ℕ) → isBlank c ≡ true → Between k x q →
     run (c ∷ q) k r x ≡ later (run q k r x)
 unfolding run next onward growing whole ended
 insert-here q [] r x c h b = absurd b
@@ -42,15 +42,15 @@ moved-zero (drawn r) = refl
 moved-zero (fault f) = refl
 
 -- a byte of p read, then by the rest of p
-insert-step : (p q : List ℕ) (c : ℕ) (e : Step) →
-    ((k : List Item) (r : Read) (x : Num) → BetweenAt (reach p k r x) q → run (p ++ (c ∷ q)) k r x ≡ moved (length p) (run (p ++ q) k r x)) →
+insert-step : (p q : List ℕ) (c : ℕ) (e : ByteStep) →
+    ((k : List Item) (r : Gathered) (x : Num) → BetweenAt (reach p k r x) q → run (p ++ (c ∷ q)) k r x ≡ moved (length p) (run (p ++ q) k r x)) →
     BetweenAt (go-on e (reach p)) q → onward e (run (p ++ (c ∷ q))) ≡ moved (suc (length p)) (onward e (run (p ++ q)))
 unfolding onward
 insert-step p q c stuck f b = refl
 insert-step p q c (at k r x) f b = rw (f k r x b) (moved-later (length p) (run (p ++ q) k r x))
 
 -- a blank c put in between p and q
-pub inserted : (p q : List ℕ) (c : ℕ) (k : List Item) (r : Read) (x : Num) → isBlank c ≡ true → BetweenAt (reach p k r x) q →
+pub inserted : (p q : List ℕ) (c : ℕ) (k : List Item) (r : Gathered) (x : Num) → isBlank c ≡ true → BetweenAt (reach p k r x) q →
     run (p ++ (c ∷ q)) k r x ≡ moved (length p) (run (p ++ q) k r x)
 unfolding run reach
 inserted [] q c k r x h b = insert-here q k r x c h b ∙ moved-zero (run q k r x)

@@ -10,10 +10,11 @@ use Rattle.fault.specs.Fault.{_if_else_}
 use Rattle.dot.specs.Numbers.{text, decimal}
 use Rattle.dot.specs.Text.{isBlank, joint}
 use Rattle.dot.specs.Plan.{Slot, cell, coefficient, One, byte, blank as one-blank, line, kind, Item, gap, num, one, plan, bytes, lines, header, named, numbers, label, stateLine, ruleLine, ending}
-use Rattle.dot.specs.Reading.{isDigit, Num, none, minus, some, canMinus, limit, grown, no-more, grow, byteOf, Read, put, newState, newRule, nextState, Turn, halt, to, take1, Step, stuck, at, growing, whole, next, ended, drawn, fault, onward, run}
+use Rattle.dot.specs.Reading.{isDigit, Num, none, minus, some, canMinus, limit, grown, no-more, grow, byteOf, Gathered, put, newState, newRule, nextState, Turn, halt, to, take1, ByteStep, stuck, at, growing, whole, next, ended, drawn, fault, onward, run}
 use Rattle.dot.proofs.Fits.{spell, allowed, Fits, done, blank, no-blank, number, single}
 use Rattle.senders.proofs.TallyLaws.{and-both as both}
-use Rattle.dot.proofs.NumberLaws.{join, digit, limit-most, one-digit, two-digits, three-digits, negative, positive}
+use Rattle.table.specs.Table.{typeBytes}
+use Rattle.dot.proofs.NumberLaws.{join, digit-range, limit-most, one-digit, two-digits, three-digits, negative, positive}
 
 -- ---- neat plans: nothing that follows a gap takes a blank, and something that takes no digit follows each number
 abbrev noBlank : List Item → Bool
@@ -57,7 +58,7 @@ neat-bytes (c ∷ w) k n = neat-bytes w k n
 -- a number of a label ends where the next joint or the quote begins
 joint-ends : (j : ℕ) (k : List Item) → noDigit (bytes (joint (j + 1)) k) ≡ true
 unfolding joint _if_else_ isDigit
-joint-ends j k = rw (ne-eqb (j + 1) 0 (λ e. omega arith)) (split (eqb ((j + 1) % 3) 0))
+joint-ends j k = rw (ne-eqb (j + 1) 0 (λ e. omega arith)) (split (eqb ((j + 1) % typeBytes) 0))
   where
     split : (b : Bool) → noDigit (bytes (cond b (text ", ") (text " ")) k) ≡ true
     split true = refl
@@ -82,7 +83,7 @@ neat-label s g = neat-numbers s g 0 (plan (text "\"~]~;") lines) refl refl
 -- a rule's line for any number of types
 neat-rule : (T : ℕ) → Neat (ruleLine T)
 unfolding isBlank isDigit
-neat-rule T = neat-label coefficient (3 * T)
+neat-rule T = neat-label coefficient (typeBytes * T)
 
 -- the plan after an item of one byte is neat
 abbrev NeatTurn : Turn → Type 0
@@ -95,7 +96,7 @@ neat-either true p q h g = h
 neat-either false p q h g = g
 
 -- wherever a plan goes on, it is neat
-neat-turn : (o : One) (k : List Item) (r : Read) (c : ℕ) → Neat k → NeatTurn (take1 o k r c)
+neat-turn : (o : One) (k : List Item) (r : Gathered) (c : ℕ) → Neat k → NeatTurn (take1 o k r c)
 unfolding take1
 neat-turn (byte b) k r c n = neat-either (eqb c b) (to k r) halt n tt
 neat-turn one-blank k r c n = neat-either (isBlank c) (to k r) halt n tt
@@ -136,7 +137,7 @@ not-byte : (b c : ℕ) (p : ℕ → Bool) → p c ≡ true → not (p b) ≡ tru
 not-byte b c p h g = ne-eqb c b (λ e. absurd (false≢true (sym (not-true (p b) g) ∙ ap p (sym e) ∙ h)))
 
 -- no blank goes on with what follows a gap
-blank-stuck : (k : List Item) (r : Read) (c : ℕ) → noBlank k ≡ true → isBlank c ≡ true → next k r none c ≡ stuck
+blank-stuck : (k : List Item) (r : Gathered) (c : ℕ) → noBlank k ≡ true → isBlank c ≡ true → next k r none c ≡ stuck
 unfolding next take1 grow growing whole
 blank-stuck [] r c n h = refl
 blank-stuck (gap ∷ k) r c n h = absurd (false≢true n)
@@ -150,17 +151,17 @@ blank-stuck (one kind ∷ k) r c n h =
     let l = blank-most c h in rw (ne-eqb c 91 (λ e. omega arith), ne-eqb c 45 (λ e. omega arith))
 
 -- no digit goes on with what follows a number
-digit-stuck : (k : List Item) (r : Read) (c : ℕ) → noDigit k ≡ true → isDigit c ≡ true → next k r none c ≡ stuck
+digit-stuck : (k : List Item) (r : Gathered) (c : ℕ) → noDigit k ≡ true → isDigit c ≡ true → next k r none c ≡ stuck
 unfolding next take1
 digit-stuck [] r c n h = refl
-digit-stuck (gap ∷ k) r c n h = let d = digit c h in rw (large-no-blank c (omega arith)) (digit-stuck k r c n h)
+digit-stuck (gap ∷ k) r c n h = let d = digit-range c h in rw (large-no-blank c (omega arith)) (digit-stuck k r c n h)
 digit-stuck (num s ∷ k) r c n h = absurd (false≢true n)
 digit-stuck (one (byte b) ∷ k) r c n h = rw (not-byte b c isDigit h n)
-digit-stuck (one one-blank ∷ k) r c n h = let d = digit c h in rw (large-no-blank c (omega arith))
+digit-stuck (one one-blank ∷ k) r c n h = let d = digit-range c h in rw (large-no-blank c (omega arith))
 digit-stuck (one line ∷ k) r c n h =
-    let d = digit c h in rw (ne-eqb c 125 (λ e. omega arith), ne-eqb c 115 (λ e. omega arith))
+    let d = digit-range c h in rw (ne-eqb c 125 (λ e. omega arith), ne-eqb c 115 (λ e. omega arith))
 digit-stuck (one kind ∷ k) r c n h =
-    let d = digit c h in rw (ne-eqb c 91 (λ e. omega arith), ne-eqb c 45 (λ e. omega arith))
+    let d = digit-range c h in rw (ne-eqb c 91 (λ e. omega arith), ne-eqb c 45 (λ e. omega arith))
 
 -- more than blanks follows a number
 not-ended : (k : List Item) → noDigit k ≡ true → ended k ≡ false
@@ -171,18 +172,18 @@ not-ended (num s ∷ k) n = refl
 not-ended (one o ∷ k) n = refl
 
 -- a fault is no drawing
-pub not-drawn : {A : Type 0} {p : ℕ} {r : Read} → fault p ≡ drawn r → A
+pub not-drawn : {A : Type 0} {p : ℕ} {r : Gathered} → fault p ≡ drawn r → A
 not-drawn e = absurd (let z : _≡_ {A = ℕ} 0 1 = cc in omega arith)
 
 -- a gap may be left where the rest is taken
-past-gap : (t : List ℕ) (k : List Item) (r : Read) (x : Num) {r′ : Read} →
+past-gap : (t : List ℕ) (k : List Item) (r : Gathered) (x : Num) {r′ : Gathered} →
     noBlank k ≡ true → run t k r none ≡ drawn r′ → run t (gap ∷ k) r x ≡ drawn r′
 unfolding run ended next onward
 past-gap [] k r x n e = e
 past-gap (c ∷ t) k r x {r′} n e = split (isBlank c) refl
   where
     split : (b : Bool) → isBlank c ≡ b → onward (cond b (at (gap ∷ k) r none) (next k r none c)) (run t) ≡ drawn r′
-    split true h = not-drawn (sym (ap (λ (q : Step). onward q (run t)) (blank-stuck k r c n h)) ∙ e)
+    split true h = not-drawn (sym (ap (λ (q : ByteStep). onward q (run t)) (blank-stuck k r c n h)) ∙ e)
     split false h = e
 
 -- only a digit goes on with a number
@@ -195,7 +196,7 @@ pub blank-no-digit : (g n : Bool) (v c : ℕ) → isBlank c ≡ true → grow g 
 blank-no-digit g n v c h = no-digit g n v c (small-no-digit c (blank-most c h))
 
 -- a whole number may be left where the rest is taken
-past-number : (t : List ℕ) (s : Slot) (k : List Item) (r : Read) (n : Bool) (v : ℕ) {r′ : Read} →
+past-number : (t : List ℕ) (s : Slot) (k : List Item) (r : Gathered) (n : Bool) (v : ℕ) {r′ : Gathered} →
     noDigit k ≡ true → run t k (put s (byteOf n v) r) none ≡ drawn r′ → run t (num s ∷ k) r (some n v) ≡ drawn r′
 unfolding run ended next onward growing whole
 past-number [] s k r n v m e = not-drawn (rw (not-ended k m) at e)
@@ -203,7 +204,7 @@ past-number (c ∷ t) s k r n v {r′} m e = split (isDigit c) refl
   where
     split : (b : Bool) → isDigit c ≡ b →
         onward (growing (grow (canMinus s) (some n v) c) s k r (next k (put s (byteOf n v) r) none c)) (run t) ≡ drawn r′
-    split true h = not-drawn (sym (ap (λ (q : Step). onward q (run t)) (digit-stuck k (put s (byteOf n v) r) c m h)) ∙ e)
+    split true h = not-drawn (sym (ap (λ (q : ByteStep). onward q (run t)) (digit-stuck k (put s (byteOf n v) r) c m h)) ∙ e)
     split false h = rw (no-digit (canMinus s) n v c h) e
 
 -- ---- the digits of a number are taken one by one
@@ -233,7 +234,7 @@ grow-next g n v d w l p e m =
     let o : v * 10 + (48 + d - 48) ≡ w = omega arith in
     rw (is-digit d l, ne-eqb v 0 (λ q. omega arith), o, le-leb w (limit g n) m)
 
-module _ (t : List ℕ) (s : Slot) (k : List Item) (r : Read) (r′ : Read) where
+module _ (t : List ℕ) (s : Slot) (k : List Item) (r : Gathered) (r′ : Gathered) where
   -- a byte that the number takes
   take-byte : (c : ℕ) (u : List ℕ) (x y : Num) → grow (canMinus s) x c ≡ grown y → run u (num s ∷ k) r y ≡ drawn r′ →
       run (c ∷ u) (num s ∷ k) r x ≡ drawn r′
@@ -278,18 +279,18 @@ module _ (t : List ℕ) (s : Slot) (k : List Item) (r : Read) (r′ : Read) wher
 
 -- ---- a whole text
 -- an item of one byte
-past-one : (o : One) (k k′ : List Item) (r r′ r″ : Read) (c : ℕ) (t : List ℕ) → take1 o k r c ≡ to k′ r′ →
+past-one : (o : One) (k k′ : List Item) (r r′ r″ : Gathered) (c : ℕ) (t : List ℕ) → take1 o k r c ≡ to k′ r′ →
     run t k′ r′ none ≡ drawn r″ → run (c ∷ t) (one o ∷ k) r none ≡ drawn r″
 unfolding run next onward
 past-one o k k′ r r′ r″ c t h e = rw (h, e)
 
 -- the end
-past-end : (r : Read) → run [] [] r none ≡ drawn r
+past-end : (r : Gathered) → run [] [] r none ≡ drawn r
 unfolding run ended
 past-end r = refl
 
 -- a blank of a gap
-past-blank : (k : List Item) (r r′ : Read) (c : ℕ) (t : List ℕ) → isBlank c ≡ true → run t (gap ∷ k) r none ≡ drawn r′ →
+past-blank : (k : List Item) (r r′ : Gathered) (c : ℕ) (t : List ℕ) → isBlank c ≡ true → run t (gap ∷ k) r none ≡ drawn r′ →
     run (c ∷ t) (gap ∷ k) r none ≡ drawn r′
 unfolding run next onward
 past-blank k r r′ c t h e = rw (h, e)
@@ -300,7 +301,7 @@ unfolding spell
 from-none d w h = h
 
 -- a text that fits is taken
-pub complete : {k : List Item} {r r′ : Read} {t : List ℕ} → Neat k → Fits k r none t r′ → run t k r none ≡ drawn r′
+pub complete : {k : List Item} {r r′ : Gathered} {t : List ℕ} → Neat k → Fits k r none t r′ → run t k r none ≡ drawn r′
 complete n (done {r = r}) = past-end r
 complete n (blank {k = k} {r = r} {r′ = r′} {c = c} {t = t} e f) = past-blank k r r′ c t e (complete n f)
 complete n (no-blank {k = k} {r = r} {t = t} f) =

@@ -7,29 +7,30 @@ use native.Mathlib.Omega.{arith}
 use lib.Dec.{eqb}
 use borrow.Author.Tests.{eq-eqb}
 use Rattle.fault.specs.Fault.{_if_else_}
+use Rattle.table.specs.Table.{typeBytes}
 use Rattle.dot.specs.Numbers.{text, decimal}
 use Rattle.dot.specs.Text.{isBlank, joint}
 use Rattle.dot.specs.Plan.{Slot, cell, coefficient, byte, blank as one-blank, line, kind, Item, gap, num, one, plan, bytes, numbers, label, ruleLine}
-use Rattle.dot.specs.Reading.{Num, none, minus, some, canMinus, byteOf, Read, put, newRule, to, take1}
+use Rattle.dot.specs.Reading.{Num, none, minus, some, canMinus, byteOf, Gathered, put, newRule, to, take1}
 use Rattle.dot.proofs.Fits.{spell, Fits, done, no-blank, number, single}
 use Rattle.dot.proofs.NumberLaws.{limit-least, positive-allowed, negative-allowed}
 use Rattle.dot.proofs.Sound.{Sane, sane-none}
 
 -- some text finishes the plan k after r
-abbrev pub Ends : List Item → Read → Num → Type 0
-Ends k r x = (t : List ℕ) × (r′ : Read) × Fits k r x t r′
+abbrev pub Ends : List Item → Gathered → Num → Type 0
+Ends k r x = (t : List ℕ) × (r′ : Gathered) × Fits k r x t r′
 
 -- from any point, whatever has been read
 abbrev AllEnd : List Item → Type 0
-AllEnd k = (r : Read) (x : Num) → Sane k x → Ends k r x
+AllEnd k = (r : Gathered) (x : Num) → Sane k x → Ends k r x
 
 -- ---- item by item
 -- no blank
-gap-ends : (k : List Item) → AllEnd k → AllEnd (gap ∷ k)
-gap-ends k g r x s = let e = g r none (sane-none k) in (e .0, e .1, no-blank (e .2))
+gap-finishes : (k : List Item) → AllEnd k → AllEnd (gap ∷ k)
+gap-finishes k g r x s = let e = g r none (sane-none k) in (e .0, e .1, no-blank (e .2))
 
 -- the byte itself is taken
-pub byte-taken : (b : ℕ) (k : List Item) (r : Read) → take1 (byte b) k r b ≡ to k r
+pub byte-taken : (b : ℕ) (k : List Item) (r : Gathered) → take1 (byte b) k r b ≡ to k r
 unfolding take1
 byte-taken b k r = rw (eq-eqb b b refl)
 
@@ -38,7 +39,7 @@ byte-ends : (b : ℕ) (k : List Item) → AllEnd k → AllEnd (one (byte b) ∷ 
 byte-ends b k g r x s = let e = g r none (sane-none k) in (b ∷ e .0, e .1, single (byte-taken b k r) (e .2))
 
 -- and any blank, where a blank must be
-pub blank-taken : (c : ℕ) (k : List Item) (r : Read) → isBlank c ≡ true → take1 one-blank k r c ≡ to k r
+pub blank-taken : (c : ℕ) (k : List Item) (r : Gathered) → isBlank c ≡ true → take1 one-blank k r c ≡ to k r
 unfolding take1
 blank-taken c k r h = rw h
 
@@ -62,9 +63,9 @@ num-ends s k g r (some m v) ok =
     (e .0, e .1, number m v [] ok (append-nil (spell (some m v))) (e .2))
 
 -- by `}`
-line-ends : (k : List Item) → AllEnd (one line ∷ k)
+line-finishes : (k : List Item) → AllEnd (one line ∷ k)
 unfolding take1
-line-ends k r x s = (125 ∷ [], r, single refl (no-blank done))
+line-finishes k r x s = (125 ∷ [], r, single refl (no-blank done))
 
 -- ---- a rule's line, to the end
 -- each byte of w
@@ -74,41 +75,41 @@ bytes-end (c ∷ w) k g = byte-ends c (bytes w k) (bytes-end w k g)
 
 -- an item of a quoted plan
 item-ends : (a b : Bool) (c : ℕ) (k : List Item) → AllEnd k → AllEnd (cond a gap (cond b (one one-blank) (one (byte c))) ∷ k)
-item-ends true b c k g = gap-ends k g
+item-ends true b c k g = gap-finishes k g
 item-ends false true c k g = blank-ends k g
 item-ends false false c k g = byte-ends c k g
 
 -- a quoted plan
-plan-ends : (w : List ℕ) (k : List Item) → AllEnd k → AllEnd (plan w k)
-plan-ends [] k g = g
-plan-ends (c ∷ w) k g = item-ends (eqb c 126) (eqb c 95) c (plan w k) (plan-ends w k g)
+plan-finishes : (w : List ℕ) (k : List Item) → AllEnd k → AllEnd (plan w k)
+plan-finishes [] k g = g
+plan-finishes (c ∷ w) k g = item-ends (eqb c 126) (eqb c 95) c (plan w k) (plan-finishes w k g)
 
 -- a label's numbers
-numbers-end : (s : Slot) (g j : ℕ) (k : List Item) → AllEnd k → AllEnd (numbers s g j k)
-numbers-end s zero j k f = f
-numbers-end s (suc g) j k f = bytes-end (joint j) _ (num-ends s _ (numbers-end s g (j + 1) k f))
+numbers-finish : (s : Slot) (g j : ℕ) (k : List Item) → AllEnd k → AllEnd (numbers s g j k)
+numbers-finish s zero j k f = f
+numbers-finish s (suc g) j k f = bytes-end (joint j) _ (num-ends s _ (numbers-finish s g (j + 1) k f))
 
 -- a label and the lines after it
-label-ends : (s : Slot) (g : ℕ) → AllEnd (label s g)
-label-ends s g =
-    plan-ends (text "~label~=~\"") _
-    (numbers-end s g 0 _ (plan-ends (text "\"~]~;") _ (gap-ends _ (line-ends []))))
+label-finishes : (s : Slot) (g : ℕ) → AllEnd (label s g)
+label-finishes s g =
+    plan-finishes (text "~label~=~\"") _
+    (numbers-finish s g 0 _ (plan-finishes (text "\"~]~;") _ (gap-finishes _ (line-finishes []))))
 
 -- a rule's line for any number of types
-rule-ends : (T : ℕ) → AllEnd (ruleLine T)
-rule-ends T = plan-ends (text ">~s") _ (num-ends cell _ (plan-ends (text "~[") _ (label-ends coefficient (3 * T))))
+rule-finishes : (T : ℕ) → AllEnd (ruleLine T)
+rule-finishes T = plan-finishes (text ">~s") _ (num-ends cell _ (plan-finishes (text "~[") _ (label-finishes coefficient (typeBytes * T))))
 
 -- by `-`: a rule may follow any name
 kind-ends : (k : List Item) → AllEnd (one kind ∷ k)
 unfolding take1
-kind-ends k r x s = let e = rule-ends (r .types) (newRule r) none tt in (45 ∷ e .0, e .1, single refl (e .2))
+kind-ends k r x s = let e = rule-finishes (r .types) (newRule r) none tt in (45 ∷ e .0, e .1, single refl (e .2))
 
 -- from any point of any plan some text finishes
-pub ends : (k : List Item) (r : Read) (x : Num) → Sane k x → Ends k r x
+pub ends : (k : List Item) (r : Gathered) (x : Num) → Sane k x → Ends k r x
 ends [] r x s = ([], r, done)
-ends (gap ∷ k) r x s = gap-ends k (ends k) r x s
+ends (gap ∷ k) r x s = gap-finishes k (ends k) r x s
 ends (num s ∷ k) r x ok = num-ends s k (ends k) r x ok
 ends (one (byte b) ∷ k) r x s = byte-ends b k (ends k) r x s
 ends (one one-blank ∷ k) r x s = blank-ends k (ends k) r x s
-ends (one line ∷ k) r x s = line-ends k r x s
+ends (one line ∷ k) r x s = line-finishes k r x s
 ends (one kind ∷ k) r x s = kind-ends k r x s

@@ -10,11 +10,13 @@ use Rattle.fault.specs.Fault.{_if_else_}
 use Rattle.dot.specs.Numbers.{text}
 use Rattle.dot.specs.Text.{isBlank, joint, Piece, space, Spaced, over, letter, one-more, no-more as no-blank, needed, tableText}
 use Rattle.dot.specs.Plan.{Slot, cell, coefficient, One, byte, blank as one-blank, line, kind, Item, gap, num, one, plan, bytes, lines, header, named, numbers, label, stateLine, ruleLine, ending}
-use Rattle.dot.specs.Reading.{isDigit, Num, none, minus, some, canMinus, limit, Grown, grown, no-more, grow, byteOf, Read, nothingRead, put, newState, newRule, nextState, Turn, halt, to, take1, Step, stuck, at, turned, growing, whole, next, ended, Outcome, drawn, fault, later, onward, run, reading}
+use Rattle.dot.specs.Reading.{isDigit, Num, none, minus, some, canMinus, limit, Grown, grown, no-more, grow, byteOf, Gathered, nothingRead, put, newState, newRule, nextState, Turn, halt, to, take1, ByteStep, stuck, at, turned, growing, whole, next, ended, Outcome, drawn, fault, later, onward, run, reading}
 use Rattle.dot.specs.Drawing.{Tokens, Drawing}
 use Rattle.dot.specs.Blanks.{go-on, reach, Between, BetweenAt, beginsBlank, beginsDigit, endsDigit, Gap}
 use Rattle.senders.proofs.TallyLaws.{and-both as both}
+use Rattle.table.specs.Table.{typeBytes}
 use Rattle.dot.proofs.NumberLaws.{join}
+use Rattle.dot.proofs.Complete.{no-digit}
 use Rattle.dot.proofs.Tokens.{tokens-read}
 
 -- ---- plans in which each number is followed by a byte of its own, or by a gap that is not the last
@@ -45,7 +47,7 @@ fair-bytes (c ∷ w) k h = fair-bytes w k h
 number-firm : (s : Slot) (g j : ℕ) (k : List Item) → firm k ≡ true → firm (numbers s g (j + 1) k) ≡ true
 unfolding joint _if_else_
 number-firm s zero j k h = h
-number-firm s (suc g) j k h = rw (ne-eqb (j + 1) 0 (λ e. omega arith)) (go (eqb ((j + 1) % 3) 0))
+number-firm s (suc g) j k h = rw (ne-eqb (j + 1) 0 (λ e. omega arith)) (go (eqb ((j + 1) % typeBytes) 0))
   where
     go : (t : Bool) → firm (bytes (cond t (text ", ") (text " ")) (num s ∷ numbers s g (j + 1 + 1) k)) ≡ true
     go true = refl
@@ -60,18 +62,14 @@ fair-label s g = fair-numbers s g 0 (plan (text "\"~]~;") lines) refl refl
 
 fair-rule : (T : ℕ) → fair (ruleLine T) ≡ true
 unfolding ended
-fair-rule T = fair-label coefficient (3 * T)
-
-no-digit : (g n : Bool) (v c : ℕ) → isDigit c ≡ false → grow g (some n v) c ≡ no-more
-unfolding grow
-no-digit g n v c h = rw h
+fair-rule T = fair-label coefficient (typeBytes * T)
 
 -- after an item of one byte, and after any byte
 abbrev FairTurn : Turn → Type 0
 FairTurn halt = Unit {0}
 FairTurn (to k r) = fair k ≡ true
 
-abbrev FairStep : Step → Type 0
+abbrev FairStep : ByteStep → Type 0
 FairStep stuck = Unit {0}
 FairStep (at k r x) = fair k ≡ true
 
@@ -79,7 +77,7 @@ either : (b : Bool) (p q : Turn) → FairTurn p → FairTurn q → FairTurn (con
 either true p q f g = f
 either false p q f g = g
 
-fair-turn : (o : One) (k : List Item) (r : Read) (c : ℕ) → fair k ≡ true → FairTurn (take1 o k r c)
+fair-turn : (o : One) (k : List Item) (r : Gathered) (c : ℕ) → fair k ≡ true → FairTurn (take1 o k r c)
 unfolding take1 ended
 fair-turn (byte b) k r c h = either (eqb c b) (to k r) halt h tt
 fair-turn one-blank k r c h = either (isBlank c) (to k r) halt h tt
@@ -95,22 +93,22 @@ fair-turned : (t : Turn) → FairTurn t → FairStep (turned t)
 fair-turned halt h = tt
 fair-turned (to k r) h = h
 
-fair-cond : (b : Bool) (p q : Step) → FairStep p → FairStep q → FairStep (cond b p q)
+fair-cond : (b : Bool) (p q : ByteStep) → FairStep p → FairStep q → FairStep (cond b p q)
 fair-cond true p q f g = f
 fair-cond false p q f g = g
 
-fair-growing : (g : Grown) (s : Slot) (k : List Item) (r : Read) (e : Step) → fair (num s ∷ k) ≡ true → FairStep e → FairStep (growing g s k r e)
+fair-growing : (g : Grown) (s : Slot) (k : List Item) (r : Gathered) (e : ByteStep) → fair (num s ∷ k) ≡ true → FairStep e → FairStep (growing g s k r e)
 unfolding growing
 fair-growing (grown y) s k r e h f = h
 fair-growing no-more s k r e h f = f
 
-fair-whole : (x : Num) (e : ℕ → Step) → ((v : ℕ) → FairStep (e v)) → FairStep (whole x e)
+fair-whole : (x : Num) (e : ℕ → ByteStep) → ((v : ℕ) → FairStep (e v)) → FairStep (whole x e)
 unfolding whole
 fair-whole none e f = tt
 fair-whole minus e f = tt
 fair-whole (some n v) e f = f (byteOf n v)
 
-fair-next : (k : List Item) (r : Read) (x : Num) (c : ℕ) → fair k ≡ true → FairStep (next k r x c)
+fair-next : (k : List Item) (r : Gathered) (x : Num) (c : ℕ) → fair k ≡ true → FairStep (next k r x c)
 unfolding next
 fair-next [] r x c h = tt
 fair-next (gap ∷ k) r x c h = fair-cond (isBlank c) (at (gap ∷ k) r none) (next k r none c) h (fair-next k r none c h)
@@ -118,11 +116,11 @@ fair-next (num s ∷ k) r x c h =
     fair-growing (grow (canMinus s) x c) s k r _ h (fair-whole x _ (λ v. fair-next k (put s v r) none c (both (firm k) (fair k) h .1)))
 fair-next (one o ∷ k) r x c h = fair-turned (take1 o k r c) (fair-turn o k r c h)
 
-fair-on : (p : List ℕ) (e : Step) → ((k : List Item) (r : Read) (x : Num) → fair k ≡ true → FairStep (reach p k r x)) → FairStep e → FairStep (go-on e (reach p))
+fair-on : (p : List ℕ) (e : ByteStep) → ((k : List Item) (r : Gathered) (x : Num) → fair k ≡ true → FairStep (reach p k r x)) → FairStep e → FairStep (go-on e (reach p))
 fair-on p stuck ih f = tt
 fair-on p (at k r x) ih f = ih k r x f
 
-fair-reach : (p : List ℕ) (k : List Item) (r : Read) (x : Num) → fair k ≡ true → FairStep (reach p k r x)
+fair-reach : (p : List ℕ) (k : List Item) (r : Gathered) (x : Num) → fair k ≡ true → FairStep (reach p k r x)
 unfolding reach
 fair-reach [] k r x h = h
 fair-reach (c ∷ p) k r x h = fair-on p (next k r x c) (fair-reach p) (fair-next k r x c h)
@@ -133,7 +131,7 @@ DigitNum b none = Unit {0}
 DigitNum b minus = Unit {0}
 DigitNum b (some n v) = b ≡ true
 
-abbrev DigitStep : Bool → Step → Type 0
+abbrev DigitStep : Bool → ByteStep → Type 0
 DigitStep b stuck = Unit {0}
 DigitStep b (at k r x) = DigitNum b x
 
@@ -163,18 +161,18 @@ digit-grow g (some n v) c = go (isDigit c) (not (eqb v 0)) (leb (v * 10 + (c - 4
     go true false u = tt
     go false t u = tt
 
-digit-growing : (b : Bool) (g : Grown) (s : Slot) (k : List Item) (r : Read) (e : Step) → DigitGrown b g → DigitStep b e → DigitStep b (growing g s k r e)
+digit-growing : (b : Bool) (g : Grown) (s : Slot) (k : List Item) (r : Gathered) (e : ByteStep) → DigitGrown b g → DigitStep b e → DigitStep b (growing g s k r e)
 unfolding growing
 digit-growing b (grown y) s k r e h f = h
 digit-growing b no-more s k r e h f = f
 
-digit-whole : (b : Bool) (x : Num) (e : ℕ → Step) → ((v : ℕ) → DigitStep b (e v)) → DigitStep b (whole x e)
+digit-whole : (b : Bool) (x : Num) (e : ℕ → ByteStep) → ((v : ℕ) → DigitStep b (e v)) → DigitStep b (whole x e)
 unfolding whole
 digit-whole b none e f = tt
 digit-whole b minus e f = tt
 digit-whole b (some n v) e f = f (byteOf n v)
 
-digit-cond : (b t : Bool) (p q : Step) → DigitStep b p → DigitStep b q → DigitStep b (cond t p q)
+digit-cond : (b t : Bool) (p q : ByteStep) → DigitStep b p → DigitStep b q → DigitStep b (cond t p q)
 digit-cond b true p q f g = f
 digit-cond b false p q f g = g
 
@@ -182,27 +180,27 @@ digit-turned : (b : Bool) (t : Turn) → DigitStep b (turned t)
 digit-turned b halt = tt
 digit-turned b (to k r) = tt
 
-digit-next : (k : List Item) (r : Read) (x : Num) (c : ℕ) → DigitStep (isDigit c) (next k r x c)
+digit-steps : (k : List Item) (r : Gathered) (x : Num) (c : ℕ) → DigitStep (isDigit c) (next k r x c)
 unfolding next
-digit-next [] r x c = tt
-digit-next (gap ∷ k) r x c = digit-cond (isDigit c) (isBlank c) (at (gap ∷ k) r none) (next k r none c) tt (digit-next k r none c)
-digit-next (num s ∷ k) r x c =
-    digit-growing (isDigit c) (grow (canMinus s) x c) s k r _ (digit-grow (canMinus s) x c) (digit-whole (isDigit c) x _ (λ v. digit-next k (put s v r) none c))
-digit-next (one o ∷ k) r x c = digit-turned (isDigit c) (take1 o k r c)
+digit-steps [] r x c = tt
+digit-steps (gap ∷ k) r x c = digit-cond (isDigit c) (isBlank c) (at (gap ∷ k) r none) (next k r none c) tt (digit-steps k r none c)
+digit-steps (num s ∷ k) r x c =
+    digit-growing (isDigit c) (grow (canMinus s) x c) s k r _ (digit-grow (canMinus s) x c) (digit-whole (isDigit c) x _ (λ v. digit-steps k (put s v r) none c))
+digit-steps (one o ∷ k) r x c = digit-turned (isDigit c) (take1 o k r c)
 
-digit-on : (b : Bool) (p : List ℕ) (e : Step) → ((k : List Item) (r : Read) (x : Num) → DigitStep b (reach p k r x)) → DigitStep b (go-on e (reach p))
+digit-on : (b : Bool) (p : List ℕ) (e : ByteStep) → ((k : List Item) (r : Gathered) (x : Num) → DigitStep b (reach p k r x)) → DigitStep b (go-on e (reach p))
 digit-on b p stuck ih = tt
 digit-on b p (at k r x) ih = ih k r x
 
-digit-last : (b : Bool) (e : Step) → DigitStep b e → DigitStep b (go-on e (reach []))
+digit-last : (b : Bool) (e : ByteStep) → DigitStep b e → DigitStep b (go-on e (reach []))
 unfolding reach
 digit-last b stuck f = tt
 digit-last b (at k r x) f = f
 
 -- after p
-digit-more : (c : ℕ) (p : List ℕ) (k : List Item) (r : Read) (x : Num) → DigitStep (endsDigit (c ∷ p)) (reach (c ∷ p) k r x)
+digit-more : (c : ℕ) (p : List ℕ) (k : List Item) (r : Gathered) (x : Num) → DigitStep (endsDigit (c ∷ p)) (reach (c ∷ p) k r x)
 unfolding reach
-digit-more c [] k r x = digit-last (isDigit c) (next k r x c) (digit-next k r x c)
+digit-more c [] k r x = digit-last (isDigit c) (next k r x c) (digit-steps k r x c)
 digit-more c (d ∷ p) k r x = digit-on (endsDigit (d ∷ p)) (d ∷ p) (next k r x c) (digit-more d p)
 
 digit-reach : (p : List ℕ) → DigitStep (endsDigit p) (reach p header nothingRead none)
@@ -215,7 +213,7 @@ abbrev Drawn : Outcome → Type 0
 Drawn (drawn r) = Unit {0}
 Drawn (fault f) = ⊥
 
-abbrev DrawnFrom : Step → List ℕ → Type 0
+abbrev DrawnFrom : ByteStep → List ℕ → Type 0
 DrawnFrom stuck u = Unit {0}
 DrawnFrom (at k r x) u = Drawn (run u k r x)
 
@@ -223,13 +221,13 @@ sooner : (o : Outcome) → Drawn (later o) → Drawn o
 sooner (drawn r) h = tt
 sooner (fault f) h = h
 
-drawn-on : (p u : List ℕ) (e : Step) → ((k : List Item) (r : Read) (x : Num) → Drawn (run (p ++ u) k r x) → DrawnFrom (reach p k r x) u) →
+drawn-on : (p u : List ℕ) (e : ByteStep) → ((k : List Item) (r : Gathered) (x : Num) → Drawn (run (p ++ u) k r x) → DrawnFrom (reach p k r x) u) →
     Drawn (onward e (run (p ++ u))) → DrawnFrom (go-on e (reach p)) u
 unfolding onward
 drawn-on p u stuck ih h = tt
 drawn-on p u (at k r x) ih h = ih k r x (sooner (run (p ++ u) k r x) h)
 
-drawn-reach : (p u : List ℕ) (k : List Item) (r : Read) (x : Num) → Drawn (run (p ++ u) k r x) → DrawnFrom (reach p k r x) u
+drawn-reach : (p u : List ℕ) (k : List Item) (r : Gathered) (x : Num) → Drawn (run (p ++ u) k r x) → DrawnFrom (reach p k r x) u
 unfolding reach run
 drawn-reach [] u k r x h = h
 drawn-reach (c ∷ p) u k r x h = drawn-on p u (next k r x c) (drawn-reach p u) h
@@ -242,7 +240,7 @@ drawn-after p u d =
 
 -- ---- so the plan is at a gap, or at a whole number before one
 -- no byte is both a tab and a carriage return
-one-byte : (b : ℕ) (k : List Item) (r : Read) (f : List Item → Read → Num → Outcome) →
+one-byte : (b : ℕ) (k : List Item) (r : Gathered) (f : List Item → Gathered → Num → Outcome) →
     Drawn (onward (turned (take1 (byte b) k r 9)) f) → Drawn (onward (turned (take1 (byte b) k r 13)) f) → ⊥
 unfolding take1 onward
 one-byte b k r f = go (eqb 9 b) (eqb 13 b) refl refl
@@ -253,7 +251,7 @@ one-byte b k r f = go (eqb 9 b) (eqb 13 b) refl refl
     go false u d e h g = h
 
 -- a rest that begins with no blank is not read where one must be
-no-must : (u : List ℕ) (k : List Item) (r : Read) (x : Num) → beginsBlank u ≡ false → Drawn (run u (one one-blank ∷ k) r x) → ⊥
+no-must : (u : List ℕ) (k : List Item) (r : Gathered) (x : Num) → beginsBlank u ≡ false → Drawn (run u (one one-blank ∷ k) r x) → ⊥
 unfolding run next take1 onward ended
 no-must [] k r x s h = h
 no-must (c ∷ u) k r x s h = rw s at h
@@ -266,7 +264,7 @@ module _ (u q : List ℕ) (b : Bool) (s : beginsBlank u ≡ false) (m : (b && be
       go [] m = not-true (ended k) f
       go (e ∷ q) m = no-digit (canMinus c) n v e (rw d at m)
 
-  here : (k : List Item) (r : Read) (x : Num) → fair k ≡ true → DigitNum b x → Drawn (run u k r x) → ((c : ℕ) → isBlank c ≡ true → Drawn (run (c ∷ u) k r x)) → Between k x q
+  here : (k : List Item) (r : Gathered) (x : Num) → fair k ≡ true → DigitNum b x → Drawn (run u k r x) → ((c : ℕ) → isBlank c ≡ true → Drawn (run (c ∷ u) k r x)) → Between k x q
   unfolding run next take1 onward growing whole grow isDigit isBlank
   here [] r x f d h g = absurd (g 9 refl)
   here (gap ∷ k) r x f d h g = tt
@@ -284,7 +282,7 @@ module _ (u q : List ℕ) (b : Bool) (s : beginsBlank u ≡ false) (m : (b && be
   here (num c ∷ (one line ∷ k)) r (some n v) f d h g = absurd (g 9 refl)
   here (num c ∷ (one kind ∷ k)) r (some n v) f d h g = absurd (g 9 refl)
 
-  here-at : (e : Step) → FairStep e → DigitStep b e → DrawnFrom e u → ((c : ℕ) → isBlank c ≡ true → DrawnFrom e (c ∷ u)) → BetweenAt e q
+  here-at : (e : ByteStep) → FairStep e → DigitStep b e → DrawnFrom e u → ((c : ℕ) → isBlank c ≡ true → DrawnFrom e (c ∷ u)) → BetweenAt e q
   here-at stuck f d h g = tt
   here-at (at k r x) f d h g = here k r x f d h g
 

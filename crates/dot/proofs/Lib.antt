@@ -7,7 +7,7 @@ pub mod Place
 pub mod Blanks
 pub mod Pieces
 pub mod Written
-pub mod Kept
+pub mod KeepLaws
 pub mod Tokens
 pub mod TokenPlace
 pub mod Gaps

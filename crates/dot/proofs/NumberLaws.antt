@@ -23,9 +23,9 @@ pub record Digit (c : ℕ) : Type 0 where
   pub to : c ≤ 57
 
 -- and a byte that passes the test is one
-pub digit : (c : ℕ) → isDigit c ≡ true → Digit c
+pub digit-range : (c : ℕ) → isDigit c ≡ true → Digit c
 unfolding isDigit
-digit c h =
+digit-range c h =
     let p = both (leb 48 c) (leb c 57) h in
     record { from = leb-true 48 c (p .0); to = leb-true c 57 (p .1) }
 
@@ -120,15 +120,15 @@ positive-allowed g v l = le-leb v (limit g false) l
 
 -- ---- a number that is begun
 -- and is in range
-abbrev pub fine : Bool → Num → Bool
-fine g none = true
-fine g minus = g
-fine g (some n v) = allowed g n v
+abbrev pub inRange : Bool → Num → Bool
+inRange g none = true
+inRange g minus = g
+inRange g (some n v) = allowed g n v
 
 -- it takes the byte c and is y then
 pub record Grew (g : Bool) (x y : Num) (c : ℕ) : Type 0 where
   pub spelt : spell y ≡ spell x ++ (c ∷ [])
-  pub fine-after : fine g x ≡ true → fine g y ≡ true
+  pub range-after : inRange g x ≡ true → inRange g y ≡ true
 
 -- if it takes the byte
 abbrev pub GrewTo : Bool → Num → ℕ → Grown → Type 0
@@ -144,15 +144,15 @@ grew-none g c = go (isDigit c) refl
     sign false h = tt
     sign true h =
         let p = both (eqb c 45) g h in
-        record { spelt = rw (eqb-true c 45 (p .0)); fine-after = λ _. p .1 }
+        record { spelt = rw (eqb-true c 45 (p .0)); range-after = λ _. p .1 }
 
     go : (b : Bool) → isDigit c ≡ b →
         GrewTo g none c (cond b (grown (some false (c - 48))) (cond (eqb c 45 && g) (grown minus) no-more))
     go true h =
-        let d = digit c h in
+        let d = digit-range c h in
         record {
           spelt = digit-first c d;
-          fine-after = λ _. positive-allowed g (c - 48) (omega (arith, limit-least g false));
+          range-after = λ _. positive-allowed g (c - 48) (omega (arith, limit-least g false));
         }
     go false h = sign (eqb c 45 && g) refl
 
@@ -165,11 +165,11 @@ grew-minus g c = go (isDigit c && not (eqb c 48)) refl
     go false h = tt
     go true h =
         let p = both (isDigit c) (not (eqb c 48)) h in
-        let d = digit c (p .0) in
+        let d = digit-range c (p .0) in
         let nz : c ≡ 48 → ⊥ = eqb-false c 48 (not-true (eqb c 48) (p .1)) in
         record {
           spelt = rw (digit-first c d);
-          fine-after = λ m.
+          range-after = λ m.
               negative-allowed g (c - 48)
               (record { can = m; least = omega (arith, nz); most = omega (arith, limit-least g true) });
         }
@@ -181,12 +181,12 @@ unfolding spell
 grew-digit g false v c d nz l =
     record {
       spelt = digit-next v c d nz (omega (arith, limit-most g false));
-      fine-after = λ _. positive-allowed g (v * 10 + (c - 48)) l;
+      range-after = λ _. positive-allowed g (v * 10 + (c - 48)) l;
     }
 grew-digit g true v c d nz l =
     record {
       spelt = rw (digit-next v c d nz (omega (arith, limit-most g true)));
-      fine-after = λ m.
+      range-after = λ m.
           negative-allowed g (v * 10 + (c - 48)) (record { can = negative g v m .can; least = omega (arith, nz); most = l });
     }
 
@@ -201,7 +201,7 @@ grew-some g n v c = go (isDigit c && not (eqb v 0) && leb (v * 10 + (c - 48)) (l
     go true h =
         let p = both (isDigit c && not (eqb v 0)) (leb (v * 10 + (c - 48)) (limit g n)) h in
         let q = both (isDigit c) (not (eqb v 0)) (p .0) in
-        grew-digit g n v c (digit c (q .0)) (eqb-false v 0 (not-true (eqb v 0) (q .1)))
+        grew-digit g n v c (digit-range c (q .0)) (eqb-false v 0 (not-true (eqb v 0) (q .1)))
         (leb-true (v * 10 + (c - 48)) (limit g n) (p .1))
 
 -- whatever byte a number takes is the next of its text, and leaves it in range
@@ -240,20 +240,20 @@ byte-spelt true b l = go (ltb b 128) refl
         }
 
 -- every number in its range is some byte, whose text it has
-pub record Stands (g n : Bool) (v : ℕ) : Type 0 where
+pub record HasByte (g n : Bool) (v : ℕ) : Type 0 where
   pub a-byte : byteOf n v < 256
   pub its-text : spelling g (byteOf n v) ≡ spell (some n v)
 
 -- by its sign
-pub stands : (g n : Bool) (v : ℕ) → allowed g n v ≡ true → Stands g n v
+pub has-byte : (g n : Bool) (v : ℕ) → allowed g n v ≡ true → HasByte g n v
 unfolding spell signed _if_else_ limit
-stands false false v a = record { a-byte = omega (arith, positive false v a); its-text = refl }
-stands false true v a = absurd (false≢true (negative false v a .can))
-stands true false v a =
+has-byte false false v a = record { a-byte = omega (arith, positive false v a); its-text = refl }
+has-byte false true v a = absurd (false≢true (negative false v a .can))
+has-byte true false v a =
     let l = positive true v a in
     let o : v < 128 = omega arith in
     record { a-byte = omega arith; its-text = rw (lt-ltb v 128 o) }
-stands true true v a =
+has-byte true true v a =
     let i = negative true v a in
     let l = i .most in
     let o : 128 ≤ 256 - v = omega arith in

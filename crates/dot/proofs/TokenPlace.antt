@@ -3,19 +3,19 @@ use Prim.Native.Nat.{ℕ, suc, _≤_, _<_}
 use mathlib.Core.Path.{_≡_}
 use mathlib.Core.List.{List, _++_}
 use lib.ListN.{length, take}
-use Rattle.dot.specs.Reading.{Read, fault, reading}
+use Rattle.dot.specs.Reading.{Gathered, fault, reading}
 use Rattle.dot.specs.Drawing.{Tokens, Drawing, Begins, Exact}
 use Rattle.dot.proofs.Fits.{Draws}
 use Rattle.dot.proofs.Place.{exact, read-draws}
 use Rattle.dot.proofs.Tokens.{draws-tokens, tokens-read}
 
 -- what fits the plan is a drawing
-draws-drawing : (t : List ℕ) (r : Read) → Draws t r → Drawing t
+draws-drawing : (t : List ℕ) (r : Gathered) → Draws t r → Drawing t
 draws-drawing t r d =
     record { types = r .types; factor = r .factor; states = r .states; rules = r .rules; body = r .body; tokens = draws-tokens t r d }
 
 -- and a drawing fits the plan
-drawing-draws : (t : List ℕ) → Drawing t → (r : Read) × Draws t r
+drawing-draws : (t : List ℕ) → Drawing t → (r : Gathered) × Draws t r
 drawing-draws t d =
     let e = tokens-read t (d .types) (d .factor) (d .states) (d .rules) (d .body) (d .tokens) in
     (_, read-draws t _ (e .1))

@@ -9,16 +9,17 @@ use lib.Dec.{eqb}
 use lib.ListN.{length, take, length-append, length-take}
 use lib.Seq.{length-take-le, take-length, getD-at}
 use Rattle.fault.specs.Bytes.{byteAt}
+use Rattle.table.specs.Table.{typeBytes, ruleBytes, stateBytes, endBytes, recordsBytes}
 use Rattle.dot.specs.Numbers.{text, decimal, spelling}
 use Rattle.dot.specs.Text.{Piece, space, Spaced, over, chars, after, newLine, tight, aBlank, joint, numbersText, labelText, stateText, ruleText, statesText, rulesText, endText, headText, tableText}
 use Rattle.dot.specs.Plan.{Slot, types, factor, cell, coefficient, line, kind, Item, gap, num, one, lines, ending, named, numbers, label, stateLine, ruleLine}
-use Rattle.dot.specs.Reading.{none, canMinus, Read, nothingRead, put, newState, newRule, nextState, halt, to, take1, turned, drawn, reading}
+use Rattle.dot.specs.Reading.{none, canMinus, Gathered, nothingRead, put, newState, newRule, nextState, halt, to, take1, turned, drawn, reading}
 use Rattle.dot.specs.Drawing.{Tokens}
 use Rattle.dot.proofs.Fits.{Fits, done, Draws}
 use Rattle.dot.proofs.Sound.{Then}
 use Rattle.dot.proofs.Written.{Adds, seen, seen-put, seen-rule, table-read}
-use Rattle.dot.proofs.Kept.{kept, since-keeps, Ranged, state-named, ranged-keeps}
-use Rattle.dot.proofs.Pieces.{Rest, _▸_, taken, byte-rest, bytes-rest, must-rest, gap-rest, after-rest, num-rest, on-byte}
+use Rattle.dot.proofs.KeepLaws.{kept, since-keeps, Ranged, state-named, ranged-keeps}
+use Rattle.dot.proofs.Pieces.{RestFits, _▸_, taken, byte-rest, bytes-rest, must-rest, gap-rest, after-rest, num-rest, on-byte}
 
 -- ---- lines
 -- what was read next is the next byte of all that is read in the end
@@ -31,38 +32,38 @@ next-byte s w j b e =
     (l, sym (ap (λ (z : List ℕ). byteAt z j) e′ ∙ getD-at (take j s) b w 0 j a))
 
 -- where a line begins: the end, or a name
-data Start (r q : Read) (t : List ℕ) : Type 0 where
-  the-end : Rest (after newLine (text "}")) ending r q t → Start r q t
-  a-name : Rest (after newLine (text "s")) named r q t → Start r q t
+data Start (r q : Gathered) (t : List ℕ) : Type 0 where
+  the-end : RestFits (after newLine (text "}")) ending r q t → Start r q t
+  a-name : RestFits (after newLine (text "s")) named r q t → Start r q t
 
 -- by its first byte
-start : (r q : Read) (t : List ℕ) → Fits lines r none t q → Start r q t
+start : (r q : Gathered) (t : List ℕ) → Fits lines r none t q → Start r q t
 unfolding take1
 start r q t f =
     let g = gap-rest newLine f in
     let e = taken (g .fits) in
     go g (e .first) (e .rest) (e .whole) (eqb (e .first) 125) (eqb (e .first) 115) refl refl (e .then)
   where
-    go : (g : Rest (λ p. space newLine ∷ p) (one line ∷ []) r q t) (c : ℕ) (u : List ℕ) → g .rest ≡ c ∷ u →
+    go : (g : RestFits (λ p. space newLine ∷ p) (one line ∷ []) r q t) (c : ℕ) (u : List ℕ) → g .rest ≡ c ∷ u →
         (a b : Bool) → eqb c 125 ≡ a → eqb c 115 ≡ b → Then (turned (cond a (to ending r) (cond b (to named r) halt))) u q → Start r q t
     go g c u e true b h i f = the-end (on-byte g c 125 u e h f)
     go g c u e false true h i f = a-name (on-byte g c 115 u e i f)
     go g c u e false false h i f = absurd f
 
 -- after its name: a state, or a rule
-data Kind (r q : Read) (t : List ℕ) : Type 0 where
-  a-state : nextState r ≡ true → Rest (after aBlank (text "[")) stateLine (newState r) q t → Kind r q t
-  a-rule : Rest (after aBlank (text "-")) (ruleLine (r .types)) (newRule r) q t → Kind r q t
+data Kind (r q : Gathered) (t : List ℕ) : Type 0 where
+  a-state : nextState r ≡ true → RestFits (after aBlank (text "[")) stateLine (newState r) q t → Kind r q t
+  a-rule : RestFits (after aBlank (text "-")) (ruleLine (r .types)) (newRule r) q t → Kind r q t
 
 -- by the byte after the name
-kind-of : (r q : Read) (t : List ℕ) → Fits (gap ∷ one kind ∷ []) r none t q → Kind r q t
+kind-of : (r q : Gathered) (t : List ℕ) → Fits (gap ∷ one kind ∷ []) r none t q → Kind r q t
 unfolding take1
 kind-of r q t f =
     let g = gap-rest aBlank f in
     let e = taken (g .fits) in
     go g (e .first) (e .rest) (e .whole) (eqb (e .first) 91) (nextState r) (eqb (e .first) 45) refl refl refl (e .then)
   where
-    go : (g : Rest (λ p. space aBlank ∷ p) (one kind ∷ []) r q t) (c : ℕ) (u : List ℕ) → g .rest ≡ c ∷ u →
+    go : (g : RestFits (λ p. space aBlank ∷ p) (one kind ∷ []) r q t) (c : ℕ) (u : List ℕ) → g .rest ≡ c ∷ u →
         (a n b : Bool) → eqb c 91 ≡ a → nextState r ≡ n → eqb c 45 ≡ b →
         Then (turned (cond a (cond n (to stateLine (newState r)) halt) (cond b (to (ruleLine (r .types)) (newRule r)) halt))) u q → Kind r q t
     go g c u e true true b h i j f = a-state i (on-byte g c 91 u e h f)
@@ -71,22 +72,22 @@ kind-of r q t f =
     go g c u e false n false h i j f = absurd f
 
 -- nothing fits the empty plan
-nothing-left : {r q : Read} {t : List ℕ} → Fits [] r none t q → (q ≡ r) × Spaced [] t
+nothing-left : {r q : Gathered} {t : List ℕ} → Fits [] r none t q → (q ≡ r) × Spaced [] t
 nothing-left done = (refl, over)
 
 -- a line up to c, with the name v
 abbrev named-by : ℕ → List ℕ → List Piece → List Piece
 named-by v c p = after newLine (text "s") (chars (decimal v) (after aBlank c p))
 
-module _ (q : Read) (T k : ℕ) where
+module _ (q : Gathered) (T k : ℕ) where
   -- n states, m rules and j bytes of all that is read in the end
-  abbrev so-far : ℕ → ℕ → ℕ → ℕ → Read
+  abbrev so-far : ℕ → ℕ → ℕ → ℕ → Gathered
   so-far = seen (q .body) T k
 
   -- f has been read back, up to j bytes
   record Upto (f : List Piece → List Piece) (z : List Item) (n m l j : ℕ) (t : List ℕ) : Type 0 where
     inside : j ≤ length (q .body)
-    back : Rest f z (so-far n m l j) q t
+    back : RestFits f z (so-far n m l j) q t
 
   -- a number that is added is the next byte
   cell-back : (c : Slot) → Adds c → (n m l j e : ℕ) {z : List Item} {t : List ℕ} → j + 1 ≡ e →
@@ -94,7 +95,7 @@ module _ (q : Read) (T k : ℕ) where
   unfolding put
   cell-back c h n m l j e {z} {t} d f = let a = num-rest f in go (a .value) (rw h at (a .rest))
     where
-      go : (v : ℕ) → Rest (chars (spelling (canMinus c) v)) z (put cell v (so-far n m l j)) q t →
+      go : (v : ℕ) → RestFits (chars (spelling (canMinus c) v)) z (put cell v (so-far n m l j)) q t →
           Upto (chars (spelling (canMinus c) (byteAt (q .body) j))) z n m l e t
       go v a =
           let i = kept since-keeps (a .fits) in
@@ -134,25 +135,25 @@ module _ (q : Read) (T k : ℕ) where
   data Line (n m l j : ℕ) (t : List ℕ) : Type 0 where
     end-line : q ≡ so-far n m l j → Spaced endText t → Line n m l j t
     state-line : m ≡ 0 → Upto (stateText (q .body) n) lines (n + 1) 0 n (2 * (n + 1)) t → Line n m l j t
-    rule-line : Upto (ruleText T (q .body) j) lines n (m + 1) (byteAt (q .body) j) (j + (2 + 3 * T)) t → Line n m l j t
+    rule-line : Upto (ruleText T (q .body) j) lines n (m + 1) (byteAt (q .body) j) (j + ruleBytes T) t → Line n m l j t
 
   -- a rule's line
   rule-back : (n m j : ℕ) {t : List ℕ} →
-      Rest (named-by (byteAt (q .body) j) (text "-")) (ruleLine T) (so-far n (m + 1) (byteAt (q .body) j) (j + 1)) q t →
-      Upto (ruleText T (q .body) j) lines n (m + 1) (byteAt (q .body) j) (j + (2 + 3 * T)) t
+      RestFits (named-by (byteAt (q .body) j) (text "-")) (ruleLine T) (so-far n (m + 1) (byteAt (q .body) j) (j + 1)) q t →
+      Upto (ruleText T (q .body) j) lines n (m + 1) (byteAt (q .body) j) (j + ruleBytes T) t
   unfolding put canMinus ruleText
   rule-back n m j a =
       let b = byteAt (q .body) j in
       let a₁ = byte-rest 62 (a .fits) in
       let a₂ = after-rest aBlank (text "s") (a₁ .fits) in
-      let c = cell-back cell (λ v r. refl) n (m + 1) b (j + 1) (j + 2) (omega arith) (a₂ .fits) in
+      let c = cell-back cell (λ v r. refl) n (m + 1) b (j + 1) (j + endBytes) (omega arith) (a₂ .fits) in
       let a₃ = after-rest aBlank (text "[") (c .back .fits) in
-      let o = label-back coefficient (λ v r. refl) (3 * T) n (m + 1) b (j + 2) (j + (2 + 3 * T)) (omega arith) (c .inside) (a₃ .fits) in
+      let o = label-back coefficient (λ v r. refl) (typeBytes * T) n (m + 1) b (j + endBytes) (j + ruleBytes T) (omega arith) (c .inside) (a₃ .fits) in
       record { inside = o .inside; back = a ▸ a₁ ▸ a₂ ▸ c .back ▸ a₃ ▸ o .back }
 
   -- a rule's first byte is its line's name
-  rule-named : (n m v j : ℕ) {t : List ℕ} → Rest (named-by v (text "-")) (ruleLine T) (newRule (so-far n m v j)) q t →
-      Rest (named-by (byteAt (q .body) j) (text "-")) (ruleLine T) (so-far n (m + 1) (byteAt (q .body) j) (j + 1)) q t
+  rule-named : (n m v j : ℕ) {t : List ℕ} → RestFits (named-by v (text "-")) (ruleLine T) (newRule (so-far n m v j)) q t →
+      RestFits (named-by (byteAt (q .body) j) (text "-")) (ruleLine T) (so-far n (m + 1) (byteAt (q .body) j) (j + 1)) q t
   unfolding newRule
   rule-named n m v j a =
       let i = kept since-keeps (a .fits) in
@@ -160,8 +161,8 @@ module _ (q : Read) (T k : ℕ) where
       rw (h .1, seen-rule (q .body) T k n m j (h .0)) at a
 
   -- a state's line
-  state-back : (n m v j : ℕ) {t : List ℕ} → v ≡ n → m ≡ 0 → j ≡ 2 * n → j ≤ length (q .body) →
-      Rest (named-by v (text "[")) stateLine (so-far (n + 1) m v j) q t →
+  state-back : (n m v j : ℕ) {t : List ℕ} → v ≡ n → m ≡ 0 → j ≡ stateBytes * n → j ≤ length (q .body) →
+      RestFits (named-by v (text "[")) stateLine (so-far (n + 1) m v j) q t →
       Upto (stateText (q .body) n) lines (n + 1) 0 n (2 * (n + 1)) t
   unfolding canMinus stateText put
   state-back n m v j {t} ev em ej w a =
@@ -169,11 +170,11 @@ module _ (q : Read) (T k : ℕ) where
       record { inside = o .inside; back = rw (ev, em, ej) at (a ▸ o .back) }
 
   -- what stands where a line begins
-  line-back : (n m l j : ℕ) (t : List ℕ) → (m ≡ 0 → j ≡ 2 * n) → j ≤ length (q .body) → Fits lines (so-far n m l j) none t q → Line n m l j t
+  line-back : (n m l j : ℕ) (t : List ℕ) → (m ≡ 0 → j ≡ stateBytes * n) → j ≤ length (q .body) → Fits lines (so-far n m l j) none t q → Line n m l j t
   unfolding put newState canMinus
   line-back n m l j t d w f = from-start (start (so-far n m l j) q t f)
     where
-      from-kind : (v : ℕ) (a : Rest (λ p. after newLine (text "s") (chars (decimal v) p)) (gap ∷ one kind ∷ []) (so-far n m v j) q t) →
+      from-kind : (v : ℕ) (a : RestFits (λ p. after newLine (text "s") (chars (decimal v) p)) (gap ∷ one kind ∷ []) (so-far n m v j) q t) →
           Kind (so-far n m v j) q (a .rest) → Line n m l j t
       from-kind v a (a-state h c) =
           let e = state-named (so-far n m v j) h in
@@ -194,7 +195,7 @@ module _ (q : Read) (T k : ℕ) where
   record Ended : Type 0 where
     same-types : q .types ≡ T
     same-factor : q .factor ≡ k
-    whole : length (q .body) ≡ 2 * q .states + q .rules * (2 + 3 * T)
+    whole : length (q .body) ≡ recordsBytes (q .states) (q .rules) T
 
   -- all lines that are left, for x states and y rules
   record Left (n m : ℕ) (t : List ℕ) : Type 0 where
@@ -204,14 +205,14 @@ module _ (q : Read) (T k : ℕ) where
     all-rules : m + y ≡ q .rules
     states-first : (m ≡ 0 → ⊥) → x ≡ 0
     ended : Ended
-    spaced : Spaced (statesText x (q .body) n (rulesText y T (q .body) (2 * q .states + m * (2 + 3 * T)) endText)) t
+    spaced : Spaced (statesText x (q .body) n (rulesText y T (q .body) (recordsBytes (q .states) m T) endText)) t
 
   -- no line is left
-  at-end : (n m l j : ℕ) {t : List ℕ} → j ≡ 2 * n + m * (2 + 3 * T) → j ≤ length (q .body) → q ≡ so-far n m l j → Spaced endText t → Left n m t
+  at-end : (n m l j : ℕ) {t : List ℕ} → j ≡ recordsBytes n m T → j ≤ length (q .body) → q ≡ so-far n m l j → Spaced endText t → Left n m t
   unfolding statesText rulesText
   at-end n m l j d i e s =
-      let es = ap (λ (r : Read). r .states) e in
-      let er = ap (λ (r : Read). r .rules) e in
+      let es = ap (λ (r : Gathered). r .states) e in
+      let er = ap (λ (r : Gathered). r .rules) e in
       record {
         x = 0;
         y = 0;
@@ -219,9 +220,9 @@ module _ (q : Read) (T k : ℕ) where
         all-rules = omega (arith, er);
         states-first = λ _. refl;
         ended = record {
-          same-types = ap (λ (r : Read). r .types) e;
-          same-factor = ap (λ (r : Read). r .factor) e;
-          whole = rw (es, er) (ap (λ (r : Read). length (r .body)) e ∙ length-take-le j (q .body) i ∙ d);
+          same-types = ap (λ (r : Gathered). r .types) e;
+          same-factor = ap (λ (r : Gathered). r .factor) e;
+          whole = rw (es, er) (ap (λ (r : Gathered). length (r .body)) e ∙ length-take-le j (q .body) i ∙ d);
         };
         spaced = s;
       }
@@ -241,15 +242,15 @@ module _ (q : Read) (T k : ℕ) where
       }
 
   -- a rule's line, then the rest
-  at-rule : (n m j : ℕ) {t u : List ℕ} → j ≡ 2 * n + m * (2 + 3 * T) → ((p : List Piece) → Spaced p u → Spaced (ruleText T (q .body) j p) t) →
+  at-rule : (n m j : ℕ) {t u : List ℕ} → j ≡ recordsBytes n m T → ((p : List Piece) → Spaced p u → Spaced (ruleText T (q .body) j p) t) →
       Left n (m + 1) u → Left n m t
   unfolding statesText rulesText
   at-rule n m j d a o =
       let ox = o .states-first (λ h. omega arith) in
       let es : n ≡ q .states = omega (arith, o .all-states) in
-      let ej : j ≡ 2 * q .states + m * (2 + 3 * T) = rw (← es) d in
-      let ek : 2 * q .states + (m + 1) * (2 + 3 * T) ≡ 2 * q .states + m * (2 + 3 * T) + (2 + 3 * T) =
-      omega (arith, add-mul m 1 (2 + 3 * T), one-mul (2 + 3 * T)) in
+      let ej : j ≡ recordsBytes (q .states) m T = rw (← es) d in
+      let ek : recordsBytes (q .states) (m + 1) T ≡ recordsBytes (q .states) m T + ruleBytes T =
+      omega (arith, add-mul m 1 (ruleBytes T), one-mul (ruleBytes T)) in
       record {
         x = 0;
         y = suc (o .y);
@@ -261,13 +262,13 @@ module _ (q : Read) (T k : ℕ) where
       }
 
   -- f is more than the number of lines that are left
-  lines-back : (f n m l j : ℕ) (t : List ℕ) → q .states + q .rules < f + (n + m) → j ≡ 2 * n + m * (2 + 3 * T) → j ≤ length (q .body) →
+  lines-back : (f n m l j : ℕ) (t : List ℕ) → q .states + q .rules < f + (n + m) → j ≡ recordsBytes n m T → j ≤ length (q .body) →
       Fits lines (so-far n m l j) none t q → Left n m t
   lines-back zero n m l j t w d i g = let h = kept since-keeps g .2 in absurd (omega arith)
   lines-back (suc f) n m l j t w d i g = go (line-back n m l j t (λ e. d ∙ rw (e, zero-mul, add-zero)) i g) (lines-back f)
     where
       go : Line n m l j t →
-          ((n m l j : ℕ) (t : List ℕ) → q .states + q .rules < f + (n + m) → j ≡ 2 * n + m * (2 + 3 * T) → j ≤ length (q .body) →
+          ((n m l j : ℕ) (t : List ℕ) → q .states + q .rules < f + (n + m) → j ≡ recordsBytes n m T → j ≤ length (q .body) →
           Fits lines (so-far n m l j) none t q → Left n m t) → Left n m t
       go (end-line e s) ih = at-end n m l j d i e s
       go (state-line e a) ih =
@@ -275,12 +276,12 @@ module _ (q : Read) (T k : ℕ) where
           (ih (n + 1) 0 n (2 * (n + 1)) (a .back .rest) (omega arith) (rw (zero-mul, add-zero)) (a .inside) (a .back .fits))
       go (rule-line a) ih =
           at-rule n m j d (a .back .spaced)
-          (ih n (m + 1) (byteAt (q .body) j) (j + (2 + 3 * T)) (a .back .rest) (omega arith)
-          (omega (arith, add-mul m 1 (2 + 3 * T), one-mul (2 + 3 * T))) (a .inside) (a .back .fits))
+          (ih n (m + 1) (byteAt (q .body) j) (j + ruleBytes T) (a .back .rest) (omega arith)
+          (omega (arith, add-mul m 1 (ruleBytes T), one-mul (ruleBytes T))) (a .inside) (a .back .fits))
 
 -- the first line gives T and k
-head-back : (q : Read) (t : List ℕ) → Draws t q →
-    (T : ℕ) × (k : ℕ) × Rest (headText T k) lines (so-far q T k 0 0 0 0) q t
+head-back : (q : Gathered) (t : List ℕ) → Draws t q →
+    (T : ℕ) × (k : ℕ) × RestFits (headText T k) lines (so-far q T k 0 0 0 0) q t
 unfolding headText canMinus put
 head-back q t f =
     let a₁ = after-rest tight (text "digraph") f in
@@ -300,13 +301,13 @@ head-back q t f =
     (b .value, c .value, a₁ ▸ a₂ ▸ a₃ ▸ a₄ ▸ a₅ ▸ a₆ ▸ a₇ ▸ b .rest ▸ a₈ ▸ a₉ ▸ a₁₀ ▸ a₁₁ ▸ c .rest ▸ a₁₂)
 
 -- the first line and all that are left
-from-left : (q : Read) (T k : ℕ) {t u : List ℕ} → Ranged q → ((p : List Piece) → Spaced p u → Spaced (headText T k p) t) → Left q T k 0 0 u →
+from-left : (q : Gathered) (T k : ℕ) {t u : List ℕ} → Ranged q → ((p : List Piece) → Spaced p u → Spaced (headText T k p) t) → Left q T k 0 0 u →
     Tokens t (q .types) (q .factor) (q .states) (q .rules) (q .body)
 unfolding tableText
 from-left q T k h a o =
     let ex = sym (zero-add (o .x)) ∙ o .all-states in
     let ey = sym (zero-add (o .y)) ∙ o .all-rules in
-    let z : 2 * q .states + 0 * (2 + 3 * T) ≡ 2 * q .states = rw (zero-mul, add-zero) in
+    let z : recordsBytes (q .states) 0 T ≡ stateBytes * q .states = rw (zero-mul, add-zero) in
     record {
       few-types = h .0;
       few-factor = h .1;
@@ -317,7 +318,7 @@ from-left q T k h a o =
     }
 
 -- every drawing has the tokens of what it draws
-pub draws-tokens : (t : List ℕ) (r : Read) → Draws t r → Tokens t (r .types) (r .factor) (r .states) (r .rules) (r .body)
+pub draws-tokens : (t : List ℕ) (r : Gathered) → Draws t r → Tokens t (r .types) (r .factor) (r .states) (r .rules) (r .body)
 draws-tokens t r f =
     let a = head-back r t f in
     from-left r (a .0) (a .1) (kept ranged-keeps f nothing-ranged) (a .2 .spaced)

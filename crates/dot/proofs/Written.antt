@@ -9,30 +9,30 @@ use native.Mathlib.Nat.{suc-mul}
 use lib.ListN.{length, take}
 use lib.Seq.{take-suc}
 use borrow.Author.Tests.{eq-eqb}
-use Rattle.fault.specs.Bytes.{byteAt}
-use Rattle.table.specs.Table.{statesOf, rulesOf, typesOf, factorOf}
+use Rattle.fault.specs.Bytes.{byteAt, trailerBytes}
+use Rattle.table.specs.Table.{statesOf, rulesOf, typesOf, factorOf, typeBytes, ruleBytes, stateBytes, endBytes, recordsBytes}
 use Rattle.table.specs.Facts.{Sized}
 use Rattle.dot.specs.Numbers.{text, decimal, signed, spelling}
 use Rattle.dot.specs.Text.{isBlank, Piece, char, space, must, written, Spaced, over, letter, one-more, no-more, needed, chars, headText, joint, numbersText, labelText, stateText, ruleText, statesText, rulesText, endText, tableText, drawingOf}
 use Rattle.dot.specs.Plan.{Slot, types, factor, name, cell, coefficient, Item, lines, header, named, numbers, label, stateLine, ruleLine, ending}
-use Rattle.dot.specs.Reading.{canMinus, Read, nothingRead, put, newState, newRule, nextState, to, take1, drawn, reading}
+use Rattle.dot.specs.Reading.{canMinus, Gathered, nothingRead, put, newState, newRule, nextState, to, take1, drawn, reading}
 use Rattle.senders.proofs.TallyLaws.{and-both as both}
 use Rattle.dot.proofs.Pieces.{Goes, over-goes, one-goes, byte-goes, bytes-go, gap-goes, must-goes, after-goes, num-goes}
 use Rattle.dot.proofs.Place.{draws-read}
 
 -- ---- a table's lines
 -- the end
-end-goes : {r : Read} → Goes endText lines r r
+end-goes : {r : Gathered} → Goes endText lines r r
 unfolding take1
 end-goes = gap-goes (one-goes {k′ = ending} refl (gap-goes over-goes))
 
 -- a slot whose bytes are added to the body
 abbrev pub Adds : Slot → Type 0
-Adds c = (v : ℕ) (r : Read) → put c v r ≡ put cell v r
+Adds c = (v : ℕ) (r : Gathered) → put c v r ≡ put cell v r
 
 module _ (s : List ℕ) (T k : ℕ) where
   -- n states, m rules and j bytes of s have been read, and l was the last name
-  abbrev pub seen : ℕ → ℕ → ℕ → ℕ → Read
+  abbrev pub seen : ℕ → ℕ → ℕ → ℕ → Gathered
   seen n m l j = record { types = T; factor = k; states = n; rules = m; last = l; body = take j s }
 
   -- one byte more
@@ -47,7 +47,7 @@ module _ (s : List ℕ) (T k : ℕ) where
 
   module _ (all : (x : ℕ) → byteAt s x < 256) where
     -- a label's numbers are the next g bytes of s
-    numbers-go : (c : Slot) → Adds c → (g i n m l j e : ℕ) {p : List Piece} {z : List Item} {q : Read} → j + g ≡ e → e ≤ length s →
+    numbers-go : (c : Slot) → Adds c → (g i n m l j e : ℕ) {p : List Piece} {z : List Item} {q : Gathered} → j + g ≡ e → e ≤ length s →
         Goes p z (seen n m l e) q → Goes (numbersText (spelling (canMinus c)) g i s j p) (numbers c g i z) (seen n m l j) q
     unfolding numbersText
     numbers-go c h zero i n m l j e d w f = let d′ : e ≡ j = omega arith in rw d′ at f
@@ -57,7 +57,7 @@ module _ (s : List ℕ) (T k : ℕ) where
         (num-goes c (byteAt s j) (all j) (rw (h (byteAt s j) (seen n m l j), seen-put n m l j (omega arith)) ih))
 
     -- a label
-    label-goes : (c : Slot) → Adds c → (g n m l j e : ℕ) {p : List Piece} {q : Read} → j + g ≡ e → e ≤ length s →
+    label-goes : (c : Slot) → Adds c → (g n m l j e : ℕ) {p : List Piece} {q : Gathered} → j + g ≡ e → e ≤ length s →
         Goes p lines (seen n m l e) q → Goes (labelText (spelling (canMinus c)) g s j p) (label c g) (seen n m l j) q
     unfolding labelText
     label-goes c h g n m l j e d w f =
@@ -67,24 +67,24 @@ module _ (s : List ℕ) (T k : ℕ) where
         (numbers-go c h g 0 n m l j e d w (byte-goes 34 (after-goes (text "]") (after-goes (text ";") f))))))
 
     -- a state's line
-    state-goes : (i l : ℕ) {p : List Piece} {q : Read} → i < 256 → 2 * (i + 1) ≤ length s → Goes p lines (seen (i + 1) 0 i (2 * (i + 1))) q →
-        Goes (stateText s i p) lines (seen i 0 l (2 * i)) q
+    state-goes : (i l : ℕ) {p : List Piece} {q : Gathered} → i < 256 → stateBytes * (i + 1) ≤ length s → Goes p lines (seen (i + 1) 0 i (stateBytes * (i + 1))) q →
+        Goes (stateText s i p) lines (seen i 0 l (stateBytes * i)) q
     unfolding stateText take1 canMinus put newState nextState
     state-goes i l b w f =
         gap-goes
         (one-goes {k′ = named} refl
         (num-goes name i b
         (gap-goes
-        (one-goes {k′ = stateLine} {r′ = seen (i + 1) 0 i (2 * i)} (rw (eq-eqb i i refl))
-        (label-goes cell (λ v r. refl) 2 (i + 1) 0 i (2 * i) (2 * (i + 1)) (omega arith) w f)))))
+        (one-goes {k′ = stateLine} {r′ = seen (i + 1) 0 i (stateBytes * i)} (rw (eq-eqb i i refl))
+        (label-goes cell (λ v r. refl) stateBytes (i + 1) 0 i (stateBytes * i) (stateBytes * (i + 1)) (omega arith) w f)))))
 
     -- a rule's line
-    rule-goes : (n m l j e : ℕ) {p : List Piece} {q : Read} → j + (2 + 3 * T) ≡ e → e ≤ length s →
+    rule-goes : (n m l j e : ℕ) {p : List Piece} {q : Gathered} → j + ruleBytes T ≡ e → e ≤ length s →
         Goes p lines (seen n (m + 1) (byteAt s j) e) q → Goes (ruleText T s j p) lines (seen n m l j) q
     unfolding ruleText take1 canMinus put
     rule-goes n m l j e d w f =
         let b = byteAt s j in
-        let z : j + 1 + 1 ≡ j + 2 = omega arith in
+        let z : j + 1 + 1 ≡ j + endBytes = omega arith in
         gap-goes
         (one-goes {k′ = named} refl
         (num-goes name b (all j)
@@ -94,10 +94,10 @@ module _ (s : List ℕ) (T k : ℕ) where
         (after-goes (text "s")
         (num-goes cell (byteAt s (j + 1)) (all (j + 1))
         (rw (seen-put n (m + 1) b (j + 1) (omega arith), z)
-        (after-goes (text "[") (label-goes coefficient (λ v r. refl) (3 * T) n (m + 1) b (j + 2) e (omega arith) w f))))))))))
+        (after-goes (text "[") (label-goes coefficient (λ v r. refl) (typeBytes * T) n (m + 1) b (j + endBytes) e (omega arith) w f))))))))))
 
     -- all rules and the end; the last name read is some number
-    rules-go : (x n m l j M e : ℕ) → m + x ≡ M → j + x * (2 + 3 * T) ≡ e → e ≤ length s →
+    rules-go : (x n m l j M e : ℕ) → m + x ≡ M → j + x * ruleBytes T ≡ e → e ≤ length s →
         (l′ : ℕ) × Goes (rulesText x T s j endText) lines (seen n m l j) (seen n M l′ e)
     unfolding rulesText
     rules-go zero n m l j M e c d w =
@@ -105,14 +105,14 @@ module _ (s : List ℕ) (T k : ℕ) where
         let b : e ≡ j = omega arith in
         (l, rw (a, b) end-goes)
     rules-go (suc x) n m l j M e c d w =
-        let h = suc-mul x (2 + 3 * T) in
-        let ih = rules-go x n (m + 1) (byteAt s j) (j + (2 + 3 * T)) M e (omega arith) (omega arith) w in
-        (ih .0, rule-goes n m l j (j + (2 + 3 * T)) refl (omega arith) (ih .1))
+        let h = suc-mul x (ruleBytes T) in
+        let ih = rules-go x n (m + 1) (byteAt s j) (j + ruleBytes T) M e (omega arith) (omega arith) w in
+        (ih .0, rule-goes n m l j (j + ruleBytes T) refl (omega arith) (ih .1))
 
     -- all states, and what follows
-    states-go : (x i n l M e : ℕ) {p : List Piece} → i + x ≡ n → n ≤ 256 → 2 * n ≤ length s →
-        ((l : ℕ) → (l′ : ℕ) × Goes p lines (seen n 0 l (2 * n)) (seen n M l′ e)) →
-        (l′ : ℕ) × Goes (statesText x s i p) lines (seen i 0 l (2 * i)) (seen n M l′ e)
+    states-go : (x i n l M e : ℕ) {p : List Piece} → i + x ≡ n → n ≤ 256 → stateBytes * n ≤ length s →
+        ((l : ℕ) → (l′ : ℕ) × Goes p lines (seen n 0 l (stateBytes * n)) (seen n M l′ e)) →
+        (l′ : ℕ) × Goes (statesText x s i p) lines (seen i 0 l (stateBytes * i)) (seen n M l′ e)
     unfolding statesText
     states-go zero i n l M e d b w f = let z : i ≡ n = omega arith in rw z (f l)
     states-go (suc x) i n l M e d b w f =
@@ -120,7 +120,7 @@ module _ (s : List ℕ) (T k : ℕ) where
         (ih .0, state-goes i l (omega arith) (omega arith) (ih .1))
 
 -- the first line
-head-goes : (T k : ℕ) {p : List Piece} {q : Read} → T ≤ 255 → k ≤ 255 → Goes p lines (put factor k (put types T nothingRead)) q →
+head-goes : (T k : ℕ) {p : List Piece} {q : Gathered} → T ≤ 255 → k ≤ 255 → Goes p lines (put factor k (put types T nothingRead)) q →
     Goes (headText T k p) header nothingRead q
 unfolding headText canMinus
 head-goes T k lT lk f =
@@ -138,14 +138,14 @@ head-goes T k lT lk f =
 
 -- the tokens of a table, with any blanks between them, are read as its counts and its bytes
 pub table-read : (T k n m : ℕ) (s : List ℕ) → T ≤ 255 → k ≤ 255 → n ≤ 256 → ((x : ℕ) → byteAt s x < 256) →
-    2 * n + m * (2 + 3 * T) ≤ length s →
+    recordsBytes n m T ≤ length s →
     (l : ℕ) × ((t : List ℕ) → Spaced (tableText T k n m s) t →
-    reading t ≡ drawn (record { types = T; factor = k; states = n; rules = m; last = l; body = take (2 * n + m * (2 + 3 * T)) s }))
+    reading t ≡ drawn (record { types = T; factor = k; states = n; rules = m; last = l; body = take (recordsBytes n m T) s }))
 unfolding tableText put
 table-read T k n m s lT lk ln all w =
-    let e = states-go s T k all n 0 n 0 m (2 * n + m * (2 + 3 * T)) (omega arith) ln (omega arith)
-    (λ l. rules-go s T k all m n 0 l (2 * n) m (2 * n + m * (2 + 3 * T)) (omega arith) refl w) in
-    (e .0, λ t x. draws-read t (seen s T k n m (e .0) (2 * n + m * (2 + 3 * T))) (head-goes T k lT lk (e .1) t x))
+    let e = states-go s T k all n 0 n 0 m (recordsBytes n m T) (omega arith) ln (omega arith)
+    (λ l. rules-go s T k all m n 0 l (stateBytes * n) m (recordsBytes n m T) (omega arith) refl w) in
+    (e .0, λ t x. draws-read t (seen s T k n m (e .0) (recordsBytes n m T)) (head-goes T k lT lk (e .1) t x))
 
 -- ---- what the writer puts into the gaps
 abbrev pub allBlank : List ℕ → Bool
@@ -188,7 +188,7 @@ tidy-numbers f (suc g) j s at p =
 tidy-states : (x : ℕ) (s : List ℕ) (i : ℕ) (p : List Piece) → tidy (statesText x s i p) ≡ tidy p
 unfolding statesText stateText labelText isBlank
 tidy-states zero s i p = refl
-tidy-states (suc x) s i p = tidy-chars (decimal i) _ ∙ tidy-numbers decimal 2 0 s (2 * i) _ ∙ tidy-states x s (i + 1) p
+tidy-states (suc x) s i p = tidy-chars (decimal i) _ ∙ tidy-numbers decimal stateBytes 0 s (stateBytes * i) _ ∙ tidy-states x s (i + 1) p
 
 -- rule lines
 tidy-rules : (x T : ℕ) (s : List ℕ) (at : ℕ) (p : List Piece) → tidy (rulesText x T s at p) ≡ tidy p
@@ -196,22 +196,22 @@ unfolding rulesText ruleText labelText isBlank
 tidy-rules zero T s at p = refl
 tidy-rules (suc x) T s at p =
     tidy-chars (decimal (byteAt s at)) _ ∙ tidy-chars (decimal (byteAt s (at + 1))) _ ∙
-    tidy-numbers signed (3 * T) 0 s (at + 2) _ ∙ tidy-rules x T s (at + (2 + 3 * T)) p
+    tidy-numbers signed (typeBytes * T) 0 s (at + endBytes) _ ∙ tidy-rules x T s (at + ruleBytes T) p
 
 -- a whole table
 tidy-table : (T k n m : ℕ) (s : List ℕ) → tidy (tableText T k n m s) ≡ true
 unfolding tableText headText isBlank
 tidy-table T k n m s =
-    tidy-chars (decimal T) _ ∙ tidy-chars (decimal k) _ ∙ tidy-states n s 0 _ ∙ tidy-rules m T s (2 * n) endText
+    tidy-chars (decimal T) _ ∙ tidy-chars (decimal k) _ ∙ tidy-states n s 0 _ ∙ tidy-rules m T s (stateBytes * n) endText
 
 -- the drawing of a table part is read as its counts and its records
 pub drawing-read : (s : List ℕ) → Sized s → ((x : ℕ) → byteAt s x < 256) →
     (l : ℕ) × (reading (drawingOf s) ≡
-    drawn (record { types = typesOf s; factor = factorOf s; states = statesOf s; rules = rulesOf s; last = l; body = take (length s - 8) s }))
+    drawn (record { types = typesOf s; factor = factorOf s; states = statesOf s; rules = rulesOf s; last = l; body = take (length s - trailerBytes) s }))
 unfolding drawingOf
 drawing-read s z all =
     let e = table-read (typesOf s) (factorOf s) (statesOf s) (rulesOf s) s (omega (arith, z .few-types)) (omega (arith, z .few-factor))
     (omega (arith, z .few-states)) all (omega (arith, z .whole)) in
     let p = tableText (typesOf s) (factorOf s) (statesOf s) (rulesOf s) s in
-    let w : 2 * statesOf s + rulesOf s * (2 + 3 * typesOf s) ≡ length s - 8 = omega (arith, z .whole) in
+    let w : recordsBytes (statesOf s) (rulesOf s) (typesOf s) ≡ length s - trailerBytes = omega (arith, z .whole) in
     (e .0, rw w at (e .1 (written p) (written-spaced p (tidy-table (typesOf s) (factorOf s) (statesOf s) (rulesOf s) s))))

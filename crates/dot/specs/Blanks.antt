@@ -5,15 +5,15 @@ use mathlib.Core.Bool.{Bool, true, false}
 use mathlib.Core.List.{List, [], _∷_, _++_}
 use Rattle.dot.specs.Text.{isBlank}
 use Rattle.dot.specs.Plan.{Item, gap, num, one}
-use Rattle.dot.specs.Reading.{isDigit, Num, none, minus, some, canMinus, grow, no-more, Read, Step, stuck, at, next, ended, Outcome, drawn, fault, later}
+use Rattle.dot.specs.Reading.{isDigit, Num, none, minus, some, canMinus, grow, no-more, Gathered, ByteStep, stuck, at, next, ended, Outcome, drawn, fault, later}
 use Rattle.dot.specs.Drawing.{Drawing}
 
 -- where reading stands after p
-abbrev pub go-on : Step → (List Item → Read → Num → Step) → Step
+abbrev pub go-on : ByteStep → (List Item → Gathered → Num → ByteStep) → ByteStep
 go-on stuck f = stuck
 go-on (at k r x) f = f k r x
 
-unfoldable pub reach : List ℕ → List Item → Read → Num → Step
+unfoldable pub reach : List ℕ → List Item → Gathered → Num → ByteStep
 reach [] k r x = at k r x
 reach (c ∷ p) k r x = go-on (next k r x c) (reach p)
 
@@ -31,7 +31,7 @@ Between (num s ∷ (gap ∷ k)) (some n v) [] = ended k ≡ false
 Between (num s ∷ (gap ∷ k)) (some n v) (d ∷ q) = grow (canMinus s) (some n v) d ≡ no-more
 
 -- past the fault every place will do
-abbrev pub BetweenAt : Step → List ℕ → Type 0
+abbrev pub BetweenAt : ByteStep → List ℕ → Type 0
 BetweenAt stuck q = Unit {0}
 BetweenAt (at k r x) q = Between k x q
 

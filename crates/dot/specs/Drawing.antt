@@ -1,9 +1,10 @@
 -- What a drawing is, and where a text leaves all of them (Q-1, "Tokens" and "60's place"). Proofs: proofs/Tokens.antt and proofs/TokenPlace.antt.
-use Prim.Native.Nat.{ℕ, suc, _+_, _*_, _≤_, _<_}
+use Prim.Native.Nat.{ℕ, suc, _≤_, _<_}
 use mathlib.Core.Path.{_≡_}
 use mathlib.Core.List.{List, _++_}
 use lib.ListN.{length, take}
 use Rattle.fault.specs.Bytes.{byteAt}
+use Rattle.table.specs.Table.{recordsBytes}
 use Rattle.dot.specs.Text.{Spaced, tableText}
 
 -- t has the tokens of a table of T types, factor k, n states and m rules with the records s, all numbers in range, and any blanks between them
@@ -12,7 +13,7 @@ pub record Tokens (t : List ℕ) (T k n m : ℕ) (s : List ℕ) : Type 0 where
   pub few-factor : k ≤ 255
   pub few-states : n ≤ 256
   pub all-bytes : (x : ℕ) → byteAt s x < 256
-  pub whole : length s ≡ 2 * n + m * (2 + 3 * T)
+  pub whole : length s ≡ recordsBytes n m T
   pub spaced : Spaced (tableText T k n m s) t
 
 pub record Drawing (t : List ℕ) : Type 0 where

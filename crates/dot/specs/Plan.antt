@@ -3,6 +3,7 @@ use Prim.Native.Nat.{ℕ, zero, suc, _+_, _*_}
 use mathlib.Core.List.{List, [], _∷_}
 use mathlib.Core.Bool.{cond}
 use lib.Dec.{eqb}
+use Rattle.table.specs.Table.{typeBytes, stateBytes}
 use Rattle.dot.specs.Numbers.{text}
 use Rattle.dot.specs.Text.{joint}
 
@@ -56,11 +57,11 @@ label s g = plan (text "~label~=~\"") (numbers s g 0 (plan (text "\"~]~;") lines
 
 -- after `name [`
 abbrev pub stateLine : List Item
-stateLine = label cell 2
+stateLine = label cell stateBytes
 
 -- after `name -`
 abbrev pub ruleLine : ℕ → List Item
-ruleLine T = plan (text ">~s") (num cell ∷ plan (text "~[") (label coefficient (3 * T)))
+ruleLine T = plan (text ">~s") (num cell ∷ plan (text "~[") (label coefficient (typeBytes * T)))
 
 -- after `}`
 abbrev pub ending : List Item

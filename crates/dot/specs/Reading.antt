@@ -43,7 +43,7 @@ byteOf false v = v
 byteOf true v = 256 - v
 
 -- ---- what has been read: T, k, how many states and rules, the last name's number, and the bytes of the records
-pub record Read : Type 0 where
+pub record Gathered : Type 0 where
   pub types : ℕ
   pub factor : ℕ
   pub states : ℕ
@@ -51,11 +51,11 @@ pub record Read : Type 0 where
   pub last : ℕ
   pub body : List ℕ
 
-abbrev pub nothingRead : Read
+abbrev pub nothingRead : Gathered
 nothingRead = record { types = 0; factor = 0; states = 0; rules = 0; last = 0; body = [] }
 
 -- a number in its slot
-unfoldable pub put : Slot → ℕ → Read → Read
+unfoldable pub put : Slot → ℕ → Gathered → Gathered
 put types v r = record { types = v; factor = r .factor; states = r .states; rules = r .rules; last = r .last; body = r .body }
 put factor v r = record { types = r .types; factor = v; states = r .states; rules = r .rules; last = r .last; body = r .body }
 put name v r = record { types = r .types; factor = r .factor; states = r .states; rules = r .rules; last = v; body = r .body }
@@ -63,24 +63,24 @@ put cell v r = record { types = r .types; factor = r .factor; states = r .states
 put coefficient v r = record { types = r .types; factor = r .factor; states = r .states; rules = r .rules; last = r .last; body = r .body ++ (v ∷ []) }
 
 -- one state more
-unfoldable pub newState : Read → Read
+unfoldable pub newState : Gathered → Gathered
 newState r = record { types = r .types; factor = r .factor; states = r .states + 1; rules = r .rules; last = r .last; body = r .body }
 
 -- one rule more, which leaves the state that was named last
-unfoldable pub newRule : Read → Read
+unfoldable pub newRule : Gathered → Gathered
 newRule r = record { types = r .types; factor = r .factor; states = r .states; rules = r .rules + 1; last = r .last; body = r .body ++ (r .last ∷ []) }
 
 -- a state line's name is the next number, and no state line comes after a rule line
-unfoldable pub nextState : Read → Bool
+unfoldable pub nextState : Gathered → Bool
 nextState r = eqb (r .last) (r .states) && eqb (r .rules) 0
 
 -- ---- one byte
 -- after an item of one byte: none may stand there, or where the plan goes on
 pub data Turn : Type 0 where
   halt : Turn
-  to : List Item → Read → Turn
+  to : List Item → Gathered → Turn
 
-unfoldable pub take1 : One → List Item → Read → ℕ → Turn
+unfoldable pub take1 : One → List Item → Gathered → ℕ → Turn
 take1 (byte b) k r c = cond (eqb c b) (to k r) halt
 take1 blank k r c = cond (isBlank c) (to k r) halt
 take1 line k r c = cond (eqb c 125) (to ending r) (cond (eqb c 115) (to named r) halt)
@@ -90,25 +90,25 @@ take1 kind k r c =
     (cond (eqb c 45) (to (ruleLine (r .types)) (newRule r)) halt)
 
 -- after any byte: none of ours may follow, or the rest of the plan, with a number begun
-pub data Step : Type 0 where
-  stuck : Step
-  at : List Item → Read → Num → Step
+pub data ByteStep : Type 0 where
+  stuck : ByteStep
+  at : List Item → Gathered → Num → ByteStep
 
-abbrev pub turned : Turn → Step
+abbrev pub turned : Turn → ByteStep
 turned halt = stuck
 turned (to k r) = at k r none
 
 -- a number goes on; or it is whole, and what follows takes the byte
-unfoldable pub growing : Grown → Slot → List Item → Read → Step → Step
+unfoldable pub growing : Grown → Slot → List Item → Gathered → ByteStep → ByteStep
 growing (grown y) s k r e = at (num s ∷ k) r y
 growing no-more s k r e = e
 
-unfoldable pub whole : Num → (ℕ → Step) → Step
+unfoldable pub whole : Num → (ℕ → ByteStep) → ByteStep
 whole none e = stuck
 whole minus e = stuck
 whole (some b v) e = e (byteOf b v)
 
-unfoldable pub next : List Item → Read → Num → ℕ → Step
+unfoldable pub next : List Item → Gathered → Num → ℕ → ByteStep
 next [] r x c = stuck
 next (gap ∷ k) r x c = cond (isBlank c) (at (gap ∷ k) r none) (next k r none c)
 next (num s ∷ k) r x c = growing (grow (canMinus s) x c) s k r (whole x (λ v. next k (put s v r) none c))
@@ -124,18 +124,18 @@ ended (one o ∷ k) = false
 
 -- what a text draws, or how many bytes of it some drawing begins with
 pub data Outcome : Type 0 where
-  drawn : Read → Outcome
+  drawn : Gathered → Outcome
   fault : ℕ → Outcome
 
 abbrev pub later : Outcome → Outcome
 later (drawn r) = drawn r
 later (fault p) = fault (suc p)
 
-unfoldable pub onward : Step → (List Item → Read → Num → Outcome) → Outcome
+unfoldable pub onward : ByteStep → (List Item → Gathered → Num → Outcome) → Outcome
 onward stuck f = fault 0
 onward (at k r x) f = later (f k r x)
 
-unfoldable pub run : List ℕ → List Item → Read → Num → Outcome
+unfoldable pub run : List ℕ → List Item → Gathered → Num → Outcome
 run [] k r x = cond (ended k) (drawn r) (fault 0)
 run (c ∷ t) k r x = onward (next k r x c) (run t)
 

@@ -6,7 +6,7 @@ use mathlib.Core.List.{List, [], _∷_, _++_}
 use lib.Dec.{eqb}
 use Rattle.fault.specs.Bytes.{byteAt}
 use Rattle.fault.specs.Fault.{_if_else_}
-use Rattle.table.specs.Table.{statesOf, rulesOf, typesOf, factorOf}
+use Rattle.table.specs.Table.{statesOf, rulesOf, typesOf, factorOf, typeBytes, ruleBytes, stateBytes, endBytes}
 use Rattle.dot.specs.Numbers.{text, decimal, signed}
 
 -- ---- pieces
@@ -71,7 +71,7 @@ headText T k p =
 
 -- before the number j of a label: nothing, or a blank; a comma too where a type begins
 unfoldable pub joint : ℕ → List ℕ
-joint j = [] if eqb j 0 else text ", " if eqb (j % 3) 0 else text " "
+joint j = [] if eqb j 0 else text ", " if eqb (j % typeBytes) 0 else text " "
 
 -- the numbers j .. j+g-1 of a label, which are the bytes of s from `at` on
 unfoldable pub numbersText : (ℕ → List ℕ) → ℕ → ℕ → List ℕ → ℕ → List Piece → List Piece
@@ -91,7 +91,7 @@ labelText spell g s at p =
 
 -- ↵s0 [label="1 0"];
 unfoldable pub stateText : List ℕ → ℕ → List Piece → List Piece
-stateText s i p = after newLine (text "s") (chars (decimal i) (after aBlank (text "[") (labelText decimal 2 s (2 * i) p)))
+stateText s i p = after newLine (text "s") (chars (decimal i) (after aBlank (text "[") (labelText decimal stateBytes s (stateBytes * i) p)))
 
 -- ↵s0 -> s2 [label="0 1 1"];
 unfoldable pub ruleText : ℕ → List ℕ → ℕ → List Piece → List Piece
@@ -101,7 +101,7 @@ ruleText T s at p =
     (after aBlank (text "->")
     (after aBlank (text "s")
     (chars (decimal (byteAt s (at + 1)))
-    (after aBlank (text "[") (labelText signed (3 * T) s (at + 2) p))))))
+    (after aBlank (text "[") (labelText signed (typeBytes * T) s (at + endBytes) p))))))
 
 unfoldable pub statesText : ℕ → List ℕ → ℕ → List Piece → List Piece
 statesText zero s i p = p
@@ -109,7 +109,7 @@ statesText (suc x) s i p = stateText s i (statesText x s (i + 1) p)
 
 unfoldable pub rulesText : ℕ → ℕ → List ℕ → ℕ → List Piece → List Piece
 rulesText zero T s at p = p
-rulesText (suc x) T s at p = ruleText T s at (rulesText x T s (at + (2 + 3 * T)) p)
+rulesText (suc x) T s at p = ruleText T s at (rulesText x T s (at + ruleBytes T) p)
 
 -- ↵}↵
 abbrev pub endText : List Piece
@@ -117,7 +117,7 @@ endText = after newLine (text "}") (space newLine ∷ [])
 
 -- n states, m rules, T types and factor k, whose records are the first bytes of s
 unfoldable pub tableText : ℕ → ℕ → ℕ → ℕ → List ℕ → List Piece
-tableText T k n m s = headText T k (statesText n s 0 (rulesText m T s (2 * n) endText))
+tableText T k n m s = headText T k (statesText n s 0 (rulesText m T s (stateBytes * n) endText))
 
 -- ---- the drawing of a table part
 unfoldable pub drawingOf : List ℕ → List ℕ

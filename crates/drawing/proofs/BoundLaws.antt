@@ -10,13 +10,15 @@ use Rattle.fault.specs.Tests.{_below_, _differs_}
 use Rattle.fault.specs.Fault.{refused, _if_else_}
 use Rattle.fault.proofs.FaultLaws.{Clean, Within, if-keeps, if-passed, check-within}
 use Rattle.fault.proofs.TestLaws.{same}
-use Rattle.table.specs.Refusals.{tableFault}
+use Rattle.table.specs.Table.{mostTable}
+use Rattle.table.specs.Refusals.{countsOutside, tableFault}
 use Rattle.table.proofs.TableLaws.{table-within, table-short}
+use Rattle.pen.specs.Pen.{mostDrawing}
 use Rattle.dot.specs.Text.{drawingOf}
 use Rattle.dot.specs.Reading.{Outcome, drawn, fault, reading}
 use Rattle.dot.proofs.TokenPlace.{exact-place}
 use Rattle.pen.proofs.LengthLaws.{drawing-short}
-use Rattle.drawing.specs.Entry.{tableOf, strange, drawnFault, drawnTable, given, drawAnswer, undrawAnswer}
+use Rattle.drawing.specs.Entry.{tableOf, drawnFault, drawnTable, given, drawAnswer, undrawAnswer}
 use Rattle.drawing.proofs.EntryLaws.{sized-table}
 
 -- refusals go to 61, places to p, counts to n
@@ -34,11 +36,11 @@ given-within p n v w lent W l =
     (λ _. record { refusal = omega arith; place = omega arith; count = omega arith })
     (λ _. record { refusal = omega arith; place = omega arith; count = l (same _ 0 e) }))
 
-pub draw-within : (s : List ℕ) (lent : ℕ) → DrawnWithin 64 6700 (drawAnswer s lent)
+pub draw-within : (s : List ℕ) (lent : ℕ) → DrawnWithin 64 mostDrawing (drawAnswer s lent)
 unfolding drawAnswer
 draw-within s lent =
     let W = table-within s in
-    given-within 64 6700 (tableFault s) (drawingOf s) lent (record { number = omega (arith, W .number); place = W .place })
+    given-within 64 mostDrawing (tableFault s) (drawingOf s) lent (record { number = omega (arith, W .number); place = W .place })
     (λ z. drawing-short s (sized-table s refl z))
 
 -- ---- what a text draws
@@ -47,16 +49,16 @@ module _ (t : List ℕ) where
   unfolding drawnFault
   drawn-within (fault p) e = record { number = omega arith; place = omega (arith, exact-place t p e .within) }
   drawn-within (drawn r) e =
-      check-within (strange (r .states) (r .rules) (r .types) (r .factor)) (omega arith)
+      check-within (countsOutside (r .states) (r .rules) (r .types) (r .factor)) (omega arith)
       (λ _. let W = table-within (tableOf r) in record { number = omega (arith, W .number); place = omega (arith, W .place) })
 
-  drawn-short : (o : Outcome) → drawnFault o .number ≡ 0 → length (drawnTable o) ≤ 936
+  drawn-short : (o : Outcome) → drawnFault o .number ≡ 0 → length (drawnTable o) ≤ mostTable
   unfolding drawnFault drawnTable
   drawn-short (fault p) z = omega arith
   drawn-short (drawn r) z =
-      let p = if-passed Clean (refused 2) (strange (r .states) (r .rules) (r .types) (r .factor)) (tableFault (tableOf r)) (λ y. omega arith) z in
+      let p = if-passed Clean (refused 2) (countsOutside (r .states) (r .rules) (r .types) (r .factor)) (tableFault (tableOf r)) (λ y. omega arith) z in
       table-short (tableOf r) (sized-table (tableOf r) refl (p .1))
 
-  pub undraw-within : (lent : ℕ) → DrawnWithin (64 + length t) 936 (undrawAnswer t lent)
+  pub undraw-within : (lent : ℕ) → DrawnWithin (64 + length t) mostTable (undrawAnswer t lent)
   unfolding undrawAnswer
-  undraw-within lent = given-within (64 + length t) 936 (drawnFault (reading t)) (drawnTable (reading t)) lent (drawn-within (reading t) refl) (drawn-short (reading t))
+  undraw-within lent = given-within (64 + length t) mostTable (drawnFault (reading t)) (drawnTable (reading t)) lent (drawn-within (reading t) refl) (drawn-short (reading t))

@@ -10,10 +10,10 @@ use borrow.Author.Tests.{eqb-true, eqb-false, leb-true, not-true, not-false}
 use Rattle.senders.proofs.TallyLaws.{and-both as both}
 use Rattle.fault.specs.Bytes.{byteAt}
 use Rattle.dot.specs.Plan.{Slot, Item, num}
-use Rattle.dot.specs.Reading.{isDigit, canMinus, limit, Num, none, minus, some, Grown, grown, no-more, grow, byteOf, Read, put, Step, stuck, at, growing, whole, next, ended, fault}
-use Rattle.dot.proofs.NumberLaws.{digit}
+use Rattle.dot.specs.Reading.{isDigit, canMinus, limit, Num, none, minus, some, Grown, grown, no-more, grow, byteOf, Gathered, put, ByteStep, stuck, at, growing, whole, next, ended, fault}
+use Rattle.dot.proofs.NumberLaws.{digit-range}
 use Rattle.drawing.specs.declared.Cursor.{Cursor}
-use Rattle.drawing.specs.Cursor.{from, reached, peeked, goesOn, begun, Begun, Counted, Digits, Rest}
+use Rattle.drawing.specs.Cursor.{from, reached, peeked, goesOn, begun, Begun, Counted, Digits, RestOfDigits}
 use Rattle.drawing.proofs.FromLaws.{Seen, seen, seen-byte, from-byte, from-end, from-not, from-same}
 use Rattle.drawing.proofs.PlanLaws.{at-free, at-stuck, stands, sticks}
 
@@ -31,7 +31,7 @@ unfolding limit
 limit-above g b h e = rw (not-false g h, e)
 
 pub digit-least : (x : ℕ) {d : Bool} → d ≡ isDigit x → d ≡ true → 48 ≤ x
-digit-least x e h = digit x (sym e ∙ h) .from
+digit-least x e h = digit-range x (sym e ∙ h) .from
 
 pub goes-on-digit : (x v most : ℕ) {d : Bool} → d ≡ isDigit x → d ≡ true → (not (eqb v 0) && leb (v * 10 + (x - 48)) most) ≡ goesOn x v most
 unfolding goesOn
@@ -57,7 +57,7 @@ first-digit t i neg {x} e eb y =
     let h : first neg x ≡ true = sym eb ∙ y in
     let z = seen (first neg) t i refl e h in
     let p = both (isDigit x) (not (neg && eqb x 48)) h in
-    let a = digit x (p .0) in
+    let a = digit-range x (p .0) in
     record {
       there = omega (arith, z .there);
       least = a .from;
@@ -65,13 +65,13 @@ first-digit t i neg {x} e eb y =
       positive = λ n. let o : x ≡ 48 → ⊥ = eqb-false x 48 (not-true (eqb x 48) (rw n at (p .1))) in omega (arith, o, a .from);
     }
 
-grow-first : (g neg : Bool) (x : ℕ) → first neg x ≡ true → grow g (begun neg) x ≡ grown (some neg (x - 48))
+grow-first-digit : (g neg : Bool) (x : ℕ) → first neg x ≡ true → grow g (begun neg) x ≡ grown (some neg (x - 48))
 unfolding grow
-grow-first g false x h = rw (both (isDigit x) (not (false && eqb x 48)) h .0)
-grow-first g true x h = rw h
+grow-first-digit g false x h = rw (both (isDigit x) (not (false && eqb x 48)) h .0)
+grow-first-digit g true x h = rw h
 
 pub digits-begin : {t : List ℕ} {i x : ℕ} {signed neg b : Bool} {d : Cursor} → x ≡ peeked t i → b ≡ first neg x → b ≡ true →
-    Rest t (i + 1) (x - 48) signed neg d → Digits t i signed neg d
+    RestOfDigits t (i + 1) (x - 48) signed neg d → Digits t i signed neg d
 unfolding next growing isDigit
 digits-begin {t} {i} {x} {signed} {neg} {b} {d} e eb y f =
     let h : first neg x ≡ true = sym eb ∙ y in
@@ -82,11 +82,11 @@ digits-begin {t} {i} {x} {signed} {neg} {b} {d} e eb y f =
       further = λ _. f .onward;
       small = f .small;
       on = λ s k r m n.
-          from-byte t i (num s ∷ k) (num s ∷ k) r r (begun neg) (some neg (x - 48)) (z .there) (rw (z .byte-is, grow-first (canMinus s) neg x h)) ∙
+          from-byte t i (num s ∷ k) (num s ∷ k) r r (begun neg) (some neg (x - 48)) (z .there) (rw (z .byte-is, grow-first-digit (canMinus s) neg x h)) ∙
           f .on s k r m n;
     }
 
-stuck-first : (s : Slot) (k : List Item) (r : Read) (signed neg : Bool) (x : ℕ) → canMinus s ≡ signed → first neg x ≡ false →
+stuck-first : (s : Slot) (k : List Item) (r : Gathered) (signed neg : Bool) (x : ℕ) → canMinus s ≡ signed → first neg x ≡ false →
     (neg ≡ false → (signed && eqb x 45) ≡ false) → next (num s ∷ k) r (begun neg) x ≡ stuck
 unfolding next grow growing whole
 stuck-first s k r signed true x m h p = rw h
@@ -123,7 +123,7 @@ pub record Growing (t : List ℕ) (i v : ℕ) (signed neg : Bool) (j w : ℕ) : 
   pub onward : i ≤ j
   pub size : w ≤ 255
   pub positive : neg ≡ true → 1 ≤ w
-  pub on : (s : Slot) (k : List Item) (r : Read) → canMinus s ≡ signed → from t i (num s ∷ k) r (some neg v) ≡ from t j (num s ∷ k) r (some neg w)
+  pub on : (s : Slot) (k : List Item) (r : Gathered) → canMinus s ≡ signed → from t i (num s ∷ k) r (some neg v) ≡ from t j (num s ∷ k) r (some neg w)
 
 pub rest-begins : {t : List ℕ} {i v : ℕ} {signed neg : Bool} → i ≤ length t → v < 10 → (neg ≡ true → 1 ≤ v) → Growing t i v signed neg i v
 rest-begins l h p = record { within = l; onward = omega arith; size = omega arith; positive = p; on = λ s k r m. refl }
@@ -156,9 +156,9 @@ goes-on-next t j w {x} {y} {most} ex eb h ey l =
       most = omega (arith, z, q .3);
     }
 
-grow-next : (g neg : Bool) (x w : ℕ) → goesOn x w (limit g neg) ≡ true → grow g (some neg w) x ≡ grown (some neg (w * 10 + (x - 48)))
+grow-next-digit : (g neg : Bool) (x w : ℕ) → goesOn x w (limit g neg) ≡ true → grow g (some neg w) x ≡ grown (some neg (w * 10 + (x - 48)))
 unfolding grow goesOn
-grow-next g neg x w h = rw h
+grow-next-digit g neg x w h = rw h
 
 grow-end : (g neg : Bool) (x w : ℕ) → goesOn x w (limit g neg) ≡ false → grow g (some neg w) x ≡ no-more
 unfolding grow goesOn
@@ -180,11 +180,11 @@ rest-goes-on {t} {i} {v} {j} {w} {x} {y} {most} {signed} {neg} {b} g em lm e eb 
       on = λ s k r m.
           g .on s k r m ∙
           from-byte t j (num s ∷ k) (num s ∷ k) r r (some neg w) (some neg (w * 10 + (x - 48))) (z .there)
-          (rw (z .byte-is, grow-next (canMinus s) neg x w (rw (m, ← em) h)));
+          (rw (z .byte-is, grow-next-digit (canMinus s) neg x w (rw (m, ← em) h)));
     })
 
 pub rest-ends : {t : List ℕ} {i v j w x u most : ℕ} {signed neg b : Bool} → Growing t i v signed neg j w → most ≡ limit signed neg →
-    x ≡ peeked t j → b ≡ goesOn x w most → b ≡ false → u ≡ byteOf neg w → u < 256 → Rest t i v signed neg (record { place = j; stuck = false; value = u })
+    x ≡ peeked t j → b ≡ goesOn x w most → b ≡ false → u ≡ byteOf neg w → u < 256 → RestOfDigits t i v signed neg (record { place = j; stuck = false; value = u })
 unfolding next growing whole ended
 rest-ends {t} {i} {v} {j} {w} {x} {u} {most} {signed} {neg} {b} g em e eb y eu lu =
     record {

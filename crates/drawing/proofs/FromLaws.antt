@@ -13,7 +13,7 @@ use Rattle.fault.specs.Bytes.{byteAt}
 use Rattle.fault.specs.Fault.{_if_else_}
 use Rattle.dot.specs.Text.{isBlank}
 use Rattle.dot.specs.Plan.{Item, gap, num, one}
-use Rattle.dot.specs.Reading.{Num, none, Read, Step, stuck, at, next, ended, Outcome, drawn, fault, later, onward, run}
+use Rattle.dot.specs.Reading.{Num, none, Gathered, ByteStep, stuck, at, next, ended, Outcome, drawn, fault, later, onward, run}
 use Rattle.drawing.specs.Cursor.{shifted, from, peeked, Skipped}
 
 shifted-later : (i : ℕ) (o : Outcome) → shifted i (later o) ≡ shifted (i + 1) o
@@ -21,28 +21,28 @@ shifted-later i (drawn r) = refl
 shifted-later i (fault p) = ap fault (omega arith)
 
 -- a byte that may follow
-pub from-byte : (t : List ℕ) (i : ℕ) (k k′ : List Item) (r r′ : Read) (x x′ : Num) → i < length t →
+pub from-byte : (t : List ℕ) (i : ℕ) (k k′ : List Item) (r r′ : Gathered) (x x′ : Num) → i < length t →
     next k r x (byteAt t i) ≡ at k′ r′ x′ → from t i k r x ≡ from t (i + 1) k′ r′ x′
 unfolding from run onward
 from-byte t i k k′ r r′ x x′ h e = rw (drop-cons t i 0 h, e, add-one i) (rw (add-one i) at (shifted-later i (run (drop (suc i) t) k′ r′ x′)))
 
 -- a byte that may not
-pub from-stuck : (t : List ℕ) (i : ℕ) (k : List Item) (r : Read) (x : Num) → i < length t →
+pub from-stuck : (t : List ℕ) (i : ℕ) (k : List Item) (r : Gathered) (x : Num) → i < length t →
     next k r x (byteAt t i) ≡ stuck → from t i k r x ≡ fault i
 unfolding from run onward
 from-stuck t i k r x h e = rw (drop-cons t i 0 h, e) (ap fault (omega arith))
 
 -- the text's end
-pub from-end : (t : List ℕ) (i : ℕ) (k : List Item) (r : Read) (x : Num) → i ≡ length t → ended k ≡ false → from t i k r x ≡ fault i
+pub from-end : (t : List ℕ) (i : ℕ) (k : List Item) (r : Gathered) (x : Num) → i ≡ length t → ended k ≡ false → from t i k r x ≡ fault i
 unfolding from run
 from-end t i k r x h e = let o : length t ≤ i = omega arith in rw (drop-of-length-le t o, e) (ap fault (omega arith))
 
-pub from-over : (t : List ℕ) (i : ℕ) (k : List Item) (r : Read) (x : Num) → i ≡ length t → ended k ≡ true → from t i k r x ≡ drawn r
+pub from-over : (t : List ℕ) (i : ℕ) (k : List Item) (r : Gathered) (x : Num) → i ≡ length t → ended k ≡ true → from t i k r x ≡ drawn r
 unfolding from run
 from-over t i k r x h e = let o : length t ≤ i = omega arith in rw (drop-of-length-le t o, e)
 
 -- two plans that ask the same of the next byte, and of the end
-pub from-same : (t : List ℕ) (i : ℕ) (k k′ : List Item) (r r′ : Read) (x x′ : Num) → i ≤ length t →
+pub from-same : (t : List ℕ) (i : ℕ) (k k′ : List Item) (r r′ : Gathered) (x x′ : Num) → i ≤ length t →
     (i < length t → next k r x (byteAt t i) ≡ next k′ r′ x′ (byteAt t i)) →
     (i ≡ length t → from t i k r x ≡ from t i k′ r′ x′) → from t i k r x ≡ from t i k′ r′ x′
 unfolding from run
@@ -57,7 +57,7 @@ from-same t i k k′ r r′ x x′ l f g = split (ltb i (length t)) refl
 pub record Passing (t : List ℕ) (i j : ℕ) : Type 0 where
   pub within : j ≤ length t
   pub onward : i ≤ j
-  pub on : (k : List Item) (r : Read) → from t i (gap ∷ k) r none ≡ from t j (gap ∷ k) r none
+  pub on : (k : List Item) (r : Gathered) → from t i (gap ∷ k) r none ≡ from t j (gap ∷ k) r none
 
 pub gap-begins : {t : List ℕ} {i : ℕ} → i ≤ length t → Passing t i i
 gap-begins h = record { within = h; onward = omega arith; on = λ k r. refl }
@@ -76,7 +76,7 @@ gap-left : (t : List ℕ) (i j : ℕ) → Passing t i j → (j < length t → is
 unfolding next run from ended
 gap-left t i j p f = record { within = p .within; onward = p .onward; on = λ k r. p .on k r ∙ past k r }
   where
-    past : (k : List Item) (r : Read) → from t j (gap ∷ k) r none ≡ from t j k r none
+    past : (k : List Item) (r : Gathered) → from t j (gap ∷ k) r none ≡ from t j k r none
     past k r =
         from-same t j (gap ∷ k) k r r none none (p .within) (λ h. rw (f h))
         (λ h. let o : length t ≤ j = omega arith in rw (drop-of-length-le t o))
@@ -115,7 +115,7 @@ unfolding peeked _if_else_
 seen-byte t i e h = sym (rw (lt-ltb i (length t) h) at e)
 
 -- no byte may follow, nor the end
-pub from-not : (t : List ℕ) (i : ℕ) (k : List Item) (r : Read) (x : Num) → i ≤ length t →
+pub from-not : (t : List ℕ) (i : ℕ) (k : List Item) (r : Gathered) (x : Num) → i ≤ length t →
     (i < length t → next k r x (byteAt t i) ≡ stuck) → ended k ≡ false → from t i k r x ≡ fault i
 from-not t i k r x l f e = split (ltb i (length t)) refl
   where

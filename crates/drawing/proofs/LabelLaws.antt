@@ -9,12 +9,13 @@ use lib.Dec.{eqb}
 use lib.ListN.{length, length-append}
 use borrow.Author.Tests.{eq-eqb, ne-eqb}
 use Rattle.fault.specs.Fault.{_if_else_}
+use Rattle.table.specs.Table.{typeBytes}
 use Rattle.pen.specs.Pen.{stored}
 use Rattle.pen.proofs.PenLaws.{stored-more, stored-length}
 use Rattle.dot.specs.Numbers.{text}
 use Rattle.dot.specs.Text.{joint}
 use Rattle.dot.specs.Plan.{Slot, Item, num, one, byte, plan, bytes, numbers}
-use Rattle.dot.specs.Reading.{canMinus, Read, put, ended}
+use Rattle.dot.specs.Reading.{canMinus, Gathered, put, ended}
 use Rattle.drawing.specs.declared.Cursor.{Cursor}
 use Rattle.drawing.specs.Cursor.{reached, more, cellOf, labelThen, Followed, Counted, Numbered, Labelled}
 
@@ -23,17 +24,17 @@ pub joint-none : {t : List ℕ} {c : Cursor} (j : ℕ) → c .place ≤ length t
 unfolding joint _if_else_
 joint-none j l h = rw h (record { within = l; free = λ z. z; onward = omega arith; on = λ k r. refl })
 
-pub joint-type : {t : List ℕ} {c d : Cursor} (j : ℕ) → (j ≡ 0 → ⊥) → j % 3 ≡ 0 → Followed t c (text ", ") d → Followed t c (joint j) d
+pub joint-type : {t : List ℕ} {c d : Cursor} (j : ℕ) → (j ≡ 0 → ⊥) → j % typeBytes ≡ 0 → Followed t c (text ", ") d → Followed t c (joint j) d
 unfolding joint _if_else_
-joint-type j n h f = rw (ne-eqb j 0 n, eq-eqb (j % 3) 0 h) f
+joint-type j n h f = rw (ne-eqb j 0 n, eq-eqb (j % typeBytes) 0 h) f
 
-pub joint-other : {t : List ℕ} {c d : Cursor} (j : ℕ) → (j ≡ 0 → ⊥) → (j % 3 ≡ 0 → ⊥) → Followed t c (text " ") d → Followed t c (joint j) d
+pub joint-other : {t : List ℕ} {c d : Cursor} (j : ℕ) → (j ≡ 0 → ⊥) → (j % typeBytes ≡ 0 → ⊥) → Followed t c (text " ") d → Followed t c (joint j) d
 unfolding joint _if_else_
-joint-other j n h f = rw (ne-eqb j 0 n, ne-eqb (j % 3) 0 h) f
+joint-other j n h f = rw (ne-eqb j 0 n, ne-eqb (j % typeBytes) 0 h) f
 
 plan-joint : (j : ℕ) (k : List Item) → plan (joint j) k ≡ bytes (joint j) k
 unfolding joint _if_else_
-plan-joint j k = split (eqb j 0) (eqb (j % 3) 0)
+plan-joint j k = split (eqb j 0) (eqb (j % typeBytes) 0)
   where
     split : (a b : Bool) → plan ([] if a else text ", " if b else text " ") k ≡ bytes ([] if a else text ", " if b else text " ") k
     split true b = refl
@@ -46,7 +47,7 @@ unfolding canMinus
 cell-signed true = refl
 cell-signed false = refl
 
-put-more : (signed : Bool) (v : ℕ) (r : Read) → put (cellOf signed) v r ≡ more (v ∷ []) r
+put-more : (signed : Bool) (v : ℕ) (r : Gathered) → put (cellOf signed) v r ≡ more (v ∷ []) r
 unfolding put
 put-more true v r = refl
 put-more false v r = refl
@@ -74,10 +75,10 @@ numbers-going : (s : Slot) (g j : ℕ) (k : List Item) → ended k ≡ false →
 numbers-going s zero j k e = e
 numbers-going s (suc g) j k e = bytes-going (joint j) s (numbers s g (j + 1) k)
 
-more-more : (v w : List ℕ) (r : Read) → more w (more v r) ≡ more (v ++ w) r
+more-more : (v w : List ℕ) (r : Gathered) → more w (more v r) ≡ more (v ++ w) r
 more-more v w r = ap (λ (b : List ℕ). record { types = r .types; factor = r .factor; states = r .states; rules = r .rules; last = r .last; body = b }) (append-assoc (r .body) v w)
 
-more-none : (r : Read) → r ≡ more [] r
+more-none : (r : Gathered) → r ≡ more [] r
 more-none r = ap (λ (b : List ℕ). record { types = r .types; factor = r .factor; states = r .states; rules = r .rules; last = r .last; body = b }) (sym (append-nil (r .body)))
 
 -- the first j numbers are read
@@ -90,7 +91,7 @@ pub record Numbering (t : List ℕ) (c : Cursor) (g : ℕ) (signed : Bool) (n : 
   pub values : List ℕ
   pub count : length values ≡ j
   pub bytes-put : left ≡ stored out n values
-  pub on : (k : List Item) (r : Read) → ended k ≡ false →
+  pub on : (k : List Item) (r : Gathered) → ended k ≡ false →
       reached t c (numbers (cellOf signed) g 0 k) r ≡ reached t d (numbers (cellOf signed) (g - j) j k) (more values r)
 
 pub numbers-begin : {t : List ℕ} {c : Cursor} (g : ℕ) (signed : Bool) (n : ℕ) (out : List ℕ) → c .place ≤ length t → Numbering t c g signed n out 0 c out
@@ -125,7 +126,7 @@ numbers-go-on {t} {c} {d} {e} {g} {n} {j} {m} {signed} {out} {mid} {left} p h q 
           ap (reached t e (numbers (cellOf signed) (g - (j + 1)) (j + 1) k)) (more-more (p .values) (e .value ∷ []) r);
     }
   where
-    left-over : (k : List Item) (r : Read) → reached t d (numbers (cellOf signed) (g - j) j k) (more (p .values) r) ≡
+    left-over : (k : List Item) (r : Gathered) → reached t d (numbers (cellOf signed) (g - j) j k) (more (p .values) r) ≡
         reached t d (bytes (joint j) (num (cellOf signed) ∷ numbers (cellOf signed) (g - (j + 1)) (j + 1) k)) (more (p .values) r)
     left-over k r = let z : g - j ≡ suc (g - (j + 1)) = omega arith in rw z
 
@@ -143,7 +144,7 @@ numbers-end {t} {c} {d} {g} {n} {j} {signed} {out} {left} p h =
       on = λ k r e. p .on k r e ∙ over k r;
     }
   where
-    over : (k : List Item) (r : Read) → reached t d (numbers (cellOf signed) (g - j) j k) (more (p .values) r) ≡ reached t d k (more (p .values) r)
+    over : (k : List Item) (r : Gathered) → reached t d (numbers (cellOf signed) (g - j) j k) (more (p .values) r) ≡ reached t d k (more (p .values) r)
     over k r = let z : g - j ≡ 0 = omega arith in rw z
 
 pub numbers-length : {t : List ℕ} {c d : Cursor} {g n j : ℕ} {signed : Bool} {out left : List ℕ} → Numbering t c g signed n out j d left → length left ≡ length out

@@ -12,21 +12,22 @@ use Rattle.senders.proofs.TallyLaws.{and-both as both}
 use Rattle.fault.specs.Bytes.{byteAt}
 use Rattle.fault.specs.Fault.{_if_else_}
 use Rattle.fault.proofs.TestLaws.{or-none}
+use Rattle.table.specs.Table.{typeBytes, ruleBytes, stateBytes, endBytes}
 use Rattle.pen.specs.Pen.{stored}
 use Rattle.pen.proofs.PenLaws.{stored-more}
 use Rattle.dot.specs.Numbers.{text}
 use Rattle.dot.specs.Plan.{Item, gap, num, one, line, kind, types, factor, name, cell, plan, lines, header, named, label, stateLine, ruleLine, ending}
-use Rattle.dot.specs.Reading.{canMinus, none, Read, nothingRead, put, newState, newRule, nextState, Step, stuck, at, turned, to, halt, take1, next, ended, Outcome, drawn, fault, run, reading}
+use Rattle.dot.specs.Reading.{canMinus, none, Gathered, nothingRead, put, newState, newRule, nextState, ByteStep, stuck, at, turned, to, halt, take1, next, ended, Outcome, drawn, fault, run, reading}
 use Rattle.drawing.specs.declared.Cursor.{Cursor}
 use Rattle.drawing.specs.declared.Reader.{Reader}
 use Rattle.drawing.specs.Cursor.{shifted, from, reached, peeked, more, cellOf, labelThen, Skipped, Followed, Counted, Labelled}
-use Rattle.drawing.specs.Lines.{Known, onLines, onName, onState, onRule, onEnd, Arrow, Stood, Headed, Closed, Told}
+use Rattle.drawing.specs.Lines.{Known, onLines, onName, onState, onRule, onEnd, Arrow, Stood, Headed, Closed, Finished}
 use Rattle.drawing.proofs.FromLaws.{Seen, seen, seen-byte, from-byte, from-stuck, from-over, from-not, from-same, from-end}
 use Rattle.drawing.proofs.PlanLaws.{at-free, at-stuck, stands}
 
 -- ---- what is known
 -- reading goes on elsewhere
-pub known-on : {t out : List ℕ} {g : Reader} {o o′ : Read → Outcome} (k : Known t g out o) → o (k .read) ≡ o′ (k .read) → Known t g out o′
+pub known-on : {t out : List ℕ} {g : Reader} {o o′ : Gathered → Outcome} (k : Known t g out o) → o (k .read) ≡ o′ (k .read) → Known t g out o′
 known-on k e =
     record {
       read = k .read;
@@ -79,10 +80,10 @@ header-read {t} {z} {a} {b} {c} {T} {k} ez f x g y h =
           };
     }
   where
-    r1 : Read
+    r1 : Gathered
     r1 = put types (T .value) nothingRead
 
-    r2 : Read
+    r2 : Gathered
     r2 = put factor (k .value) r1
 
     rest : List Item
@@ -95,7 +96,7 @@ header-read {t} {z} {a} {b} {c} {T} {k} ez f x g y h =
         y .on factor (plan (text "~;") lines) r1 refl refl ∙ h .on lines r2
 
 -- ---- the start of a line
-line-start : (t : List ℕ) (i j : ℕ) (r : Read) → Skipped t i j → from t i lines r none ≡ from t j (one line ∷ []) r none
+line-start : (t : List ℕ) (i j : ℕ) (r : Gathered) → Skipped t i j → from t i lines r none ≡ from t j (one line ∷ []) r none
 line-start t i j r s = s .on (one line ∷ []) r
 
 pub line-ends : {t out : List ℕ} {g : Reader} {j x : ℕ} → Known t g out (onLines t g) → g .ended ≡ false → Skipped t (g .place) j → x ≡ peeked t j → x ≡ 125 →
@@ -111,7 +112,7 @@ line-ends {t} {out} {g} {j} {x} k e s ex h =
 pub bracket-there : (t : List ℕ) (j : ℕ) {x : ℕ} → x ≡ peeked t j → x ≡ 125 → j + 1 ≤ length t
 bracket-there t j {x} ex h = let z = seen (λ (x : ℕ). eqb x 125) t j refl ex (eq-eqb x 125 h) in omega (arith, z .there)
 
-line-names : (t : List ℕ) (j : ℕ) (r : Read) {x : ℕ} → j ≤ length t → x ≡ peeked t j → (x ≡ 125 → ⊥) →
+line-names : (t : List ℕ) (j : ℕ) (r : Gathered) {x : ℕ} → j ≤ length t → x ≡ peeked t j → (x ≡ 125 → ⊥) →
     from t j (one line ∷ []) r none ≡ from t j (plan (text "s") named) r none
 unfolding next take1 ended
 line-names t j r {x} l ex n =
@@ -131,11 +132,11 @@ name-leads {t} {out} {g} {j} {x} {z} {s} {v} {c} k e p ex n ez f y h =
     h .on (one kind ∷ []) (put name (v .value) r))
 
 -- ---- the end
-pub end-fails : (t : List ℕ) (i j : ℕ) (r : Read) → Skipped t i j → j < length t → onEnd t i r ≡ fault j
+pub end-fails : (t : List ℕ) (i j : ℕ) (r : Gathered) → Skipped t i j → j < length t → onEnd t i r ≡ fault j
 unfolding onEnd next
 end-fails t i j r s l = s .on [] r ∙ from-stuck t j [] r none l refl
 
-end-draws : (t : List ℕ) (i j : ℕ) (r : Read) → Skipped t i j → length t ≤ j → onEnd t i r ≡ drawn r
+end-draws : (t : List ℕ) (i j : ℕ) (r : Gathered) → Skipped t i j → length t ≤ j → onEnd t i r ≡ drawn r
 unfolding onEnd ended
 end-draws t i j r s l = s .on [] r ∙ from-over t j [] r none (omega (arith, s .within)) refl
 
@@ -209,7 +210,7 @@ name-goes {t} {out} {g} c v k s = known-on k (at-free t c (one kind ∷ []) (put
 abbrev isNext : Reader → ℕ → ℕ → Bool
 isNext g v x = eqb x 91 && (eqb v (g .states) && eqb (g .rules) 0)
 
-next-state : {t out : List ℕ} {g : Reader} {o : Read → Outcome} (v : ℕ) (k : Known t g out o) → nextState (put name v (k .read)) ≡ (eqb v (g .states) && eqb (g .rules) 0)
+next-state : {t out : List ℕ} {g : Reader} {o : Gathered → Outcome} (v : ℕ) (k : Known t g out o) → nextState (put name v (k .read)) ≡ (eqb v (g .states) && eqb (g .rules) 0)
 unfolding nextState put
 next-state v k = rw (k .states-are, k .rules-are)
 
@@ -243,7 +244,7 @@ unfolding onName next take1 ended
 kind-fails {t} {out} {g} i v {x} l k ex h n =
     k .goes ∙ from-not t i (one kind ∷ []) r none l (λ o. rw (seen-byte t i ex o) (split (eqb x 91) (nextState r) refl refl)) refl
   where
-    r : Read
+    r : Gathered
     r = put name v (k .read)
 
     split : (a b : Bool) → eqb x 91 ≡ a → nextState r ≡ b →
@@ -256,7 +257,7 @@ kind-fails {t} {out} {g} i v {x} l k ex h n =
 pub state-read : {t out left : List ℕ} {g : Reader} (i v : ℕ) {z c : Cursor} → g .place + 1 ≤ i → Known t g out (onState t i v) → z ≡ stands i →
     Labelled t z 2 (labelThen (cellOf false) 2) c (g .made) out left →
     Stood t (g .place)
-    (record { place = c .place; stuck = c .stuck; ended = false; types = g .types; factor = g .factor; states = g .states + 1; rules = g .rules; made = g .made + 2 }) left
+    (record { place = c .place; stuck = c .stuck; ended = false; types = g .types; factor = g .factor; states = g .states + 1; rules = g .rules; made = g .made + stateBytes }) left
 unfolding onState onLines _if_else_ put newState ended
 state-read {t} {out} {left} {g} i v {z} {c} o k ez l =
     record {
@@ -282,10 +283,10 @@ state-read {t} {out} {left} {g} i v {z} {c} o k ez l =
           };
     }
   where
-    r0 : Read
+    r0 : Gathered
     r0 = newState (put name v (k .read))
 
-    r : Read
+    r : Gathered
     r = more (l .values) r0
 
     leads : reading t ≡ reached t c lines r
@@ -308,10 +309,10 @@ arrow-read {t} {out} {mid} {left} {v} {n} {m} {u} {w} {z} {a} {d} i ez f y eu e1
     }
 
 pub rule-read : {t out mid left : List ℕ} {g : Reader} {n : ℕ} {b c d : Cursor} (i v : ℕ) → g .place + 1 ≤ i → Known t g out (onRule t i v) →
-    Arrow t i v d (g .made) out mid → Followed t d (text "~[") b → n ≡ g .made + 2 →
-    Labelled t b (3 * g .types) (labelThen (cellOf true) (3 * g .types)) c n mid left →
+    Arrow t i v d (g .made) out mid → Followed t d (text "~[") b → n ≡ g .made + endBytes →
+    Labelled t b (typeBytes * g .types) (labelThen (cellOf true) (typeBytes * g .types)) c n mid left →
     Stood t (g .place)
-    (record { place = c .place; stuck = c .stuck; ended = false; types = g .types; factor = g .factor; states = g .states; rules = g .rules + 1; made = g .made + 2 + 3 * g .types }) left
+    (record { place = c .place; stuck = c .stuck; ended = false; types = g .types; factor = g .factor; states = g .states; rules = g .rules + 1; made = g .made + endBytes + typeBytes * g .types }) left
 unfolding onRule onLines _if_else_ put newRule ended
 rule-read {t} {out} {mid} {left} {g} {n} {b} {c} {d} i v o k y h en l =
     record {
@@ -327,7 +328,7 @@ rule-read {t} {out} {mid} {left} {g} {n} {b} {c} {d} i v o k y h en l =
             states-are = k .states-are;
             rules-are = rw (k .rules-are);
             made-is = length-append (r1 .body) (l .values) ∙ omega (arith, ends-length, l .count);
-            sum = omega (arith, k .sum, add-mul (g .rules) 1 (2 + 3 * g .types), one-mul (2 + 3 * g .types));
+            sum = omega (arith, k .sum, add-mul (g .rules) 1 (ruleBytes (g .types)), one-mul (ruleBytes (g .types)));
             first = k .first;
             kept = keeps;
             few = k .few;
@@ -340,20 +341,20 @@ rule-read {t} {out} {mid} {left} {g} {n} {b} {c} {d} i v o k y h en l =
     T : ℕ
     T = k .read .types
 
-    r0 : Read
+    r0 : Gathered
     r0 = newRule (put name v (k .read))
 
-    r1 : Read
+    r1 : Gathered
     r1 = put cell (d .value) r0
 
-    r : Read
+    r : Gathered
     r = more (l .values) r1
 
     tail : List Item
-    tail = label (cellOf true) (3 * T)
+    tail = label (cellOf true) (typeBytes * T)
 
-    labels : labelThen (cellOf true) (3 * g .types) lines ≡ tail
-    labels = ap (λ (x : ℕ). labelThen (cellOf true) (3 * x) lines) (sym (k .types-are))
+    labels : labelThen (cellOf true) (typeBytes * g .types) lines ≡ tail
+    labels = ap (λ (x : ℕ). labelThen (cellOf true) (typeBytes * x) lines) (sym (k .types-are))
 
     leads : reading t ≡ reached t c lines r
     leads =
@@ -362,7 +363,7 @@ rule-read {t} {out} {mid} {left} {g} {n} {b} {c} {d} i v o k y h en l =
     ends-are : r1 .body ≡ k .read .body ++ (v ∷ d .value ∷ [])
     ends-are = append-assoc (k .read .body) (v ∷ []) (d .value ∷ [])
 
-    ends-length : length (r1 .body) ≡ g .made + 2
+    ends-length : length (r1 .body) ≡ g .made + endBytes
     ends-length = ap length ends-are ∙ length-append (k .read .body) (v ∷ d .value ∷ []) ∙ omega (arith, k .made-is)
 
     keeps : left ≡ stored (k .first) 0 (r .body)
@@ -374,15 +375,15 @@ rule-read {t} {out} {mid} {left} {g} {n} {b} {c} {d} i v o k y h en l =
         stored-more (k .first) 0 n (r1 .body) (l .values) (omega (arith, en, ends-length))
 
 -- ---- all lines
-pub record Stands (t : List ℕ) (g : Reader) (out : List ℕ) : Type 0 where
+pub record AtLine (t : List ℕ) (g : Reader) (out : List ℕ) : Type 0 where
   pub within : g .place ≤ length t
   pub fails : g .stuck ≡ true → reading t ≡ fault (g .place)
   pub knows : g .stuck ≡ false → Known t g out (onLines t g)
 
-pub lines-begin : {t : List ℕ} {g : Reader} (out : List ℕ) → Headed t g → Stands t g out
+pub lines-begin : {t : List ℕ} {g : Reader} (out : List ℕ) → Headed t g → AtLine t g out
 lines-begin out h = record { within = h .within; fails = h .fails; knows = h .knows out }
 
-pub lines-go-on : {t out : List ℕ} {i : ℕ} {h : Reader} → Stood t i h out → Stands t h out
+pub lines-go-on : {t out : List ℕ} {i : ℕ} {h : Reader} → Stood t i h out → AtLine t h out
 lines-go-on s = record { within = s .within; fails = s .fails; knows = s .knows }
 
 -- a reader that goes on is neither stuck nor at the end
@@ -395,7 +396,7 @@ free g e h =
     let p = or-none (g .stuck) (g .ended) (not-true (g .stuck || g .ended) (sym e ∙ h)) in
     record { not-stuck = p .0; not-ended = p .1 }
 
-pub lines-end : {t out : List ℕ} {g : Reader} {b : Bool} → Stands t g out → b ≡ not (g .stuck || g .ended) → b ≡ false → Told t g out
+pub lines-end : {t out : List ℕ} {g : Reader} {b : Bool} → AtLine t g out → b ≡ not (g .stuck || g .ended) → b ≡ false → Finished t g out
 unfolding onLines _if_else_
 lines-end {t} {out} {g} {b} s e h =
     record {

@@ -13,17 +13,17 @@ use Rattle.fault.specs.Bytes.{byteAt}
 use Rattle.fault.specs.Fault.{_if_else_}
 use Rattle.dot.specs.Text.{isBlank}
 use Rattle.dot.specs.Plan.{Item, gap, num, one, byte, blank, item, plan}
-use Rattle.dot.specs.Reading.{Num, none, Read, Step, stuck, at, to, halt, turned, take1, next, ended, fault}
+use Rattle.dot.specs.Reading.{Num, none, Gathered, ByteStep, stuck, at, to, halt, turned, take1, next, ended, fault}
 use Rattle.drawing.specs.declared.Cursor.{Cursor}
 use Rattle.drawing.specs.Cursor.{from, reached, peeked, asked, Skipped, Followed}
 use Rattle.drawing.proofs.FromLaws.{Seen, seen, seen-byte, from-byte, from-not}
 
 -- ---- cursors
-pub at-free : (t : List ℕ) (c : Cursor) (k : List Item) (r : Read) → c .stuck ≡ false → reached t c k r ≡ from t (c .place) k r none
+pub at-free : (t : List ℕ) (c : Cursor) (k : List Item) (r : Gathered) → c .stuck ≡ false → reached t c k r ≡ from t (c .place) k r none
 unfolding reached _if_else_
 at-free t c k r h = rw h
 
-pub at-stuck : (t : List ℕ) (c : Cursor) (k : List Item) (r : Read) → c .stuck ≡ true → reached t c k r ≡ fault (c .place)
+pub at-stuck : (t : List ℕ) (c : Cursor) (k : List Item) (r : Gathered) → c .stuck ≡ true → reached t c k r ≡ fault (c .place)
 unfolding reached _if_else_
 at-stuck t c k r h = rw h
 
@@ -50,7 +50,7 @@ asked-none c l = split (eqb c 95) refl
     split true h = refl
     split false h = ne-eqb 256 c (λ e. omega arith)
 
-asked-next : (c x : ℕ) (k : List Item) (r : Read) → (c ≡ 126 → ⊥) → next (item c ∷ k) r none x ≡ cond (asked c x) (at k r none) stuck
+asked-next : (c x : ℕ) (k : List Item) (r : Gathered) → (c ≡ 126 → ⊥) → next (item c ∷ k) r none x ≡ cond (asked c x) (at k r none) stuck
 unfolding asked next take1 _if_else_
 asked-next c x k r h = rw (ne-eqb c 126 h) (split (eqb c 95) refl)
   where
@@ -85,7 +85,7 @@ item-gap {t} {c} {d} {code} {j} h e s f =
       on = λ k r. at-free t c (plan (code ∷ []) k) r h ∙ gapped k r ∙ s .on k r ∙ sym (at-free t (stands j) k r refl);
     })
   where
-    gapped : (k : List Item) (r : Read) → from t (c .place) (item code ∷ k) r none ≡ from t (c .place) (gap ∷ k) r none
+    gapped : (k : List Item) (r : Gathered) → from t (c .place) (item code ∷ k) r none ≡ from t (c .place) (gap ∷ k) r none
     gapped k r = rw (eq-eqb code 126 e)
 
 pub item-taken : {t : List ℕ} {c d : Cursor} {code x : ℕ} {b : Bool} → c .stuck ≡ false → (code ≡ 126 → ⊥) → code < 256 →
@@ -123,7 +123,7 @@ pub record Going (t : List ℕ) (c : Cursor) (w : List ℕ) (j : ℕ) (d : Curso
   pub within : d .place ≤ length t
   pub free : d .stuck ≡ false → c .stuck ≡ false
   pub onward : c .place ≤ d .place
-  pub on : (k : List Item) (r : Read) → reached t c (plan w k) r ≡ reached t d (plan (drop j w) k) r
+  pub on : (k : List Item) (r : Gathered) → reached t c (plan w k) r ≡ reached t d (plan (drop j w) k) r
 
 pub plan-begins : {t : List ℕ} {c : Cursor} (w : List ℕ) → c .place ≤ length t → Going t c w 0 c
 plan-begins w l = record { within = l; free = λ z. z; onward = omega arith; on = λ k r. refl }

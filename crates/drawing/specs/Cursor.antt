@@ -12,7 +12,7 @@ use Rattle.pen.specs.Pen.{stored}
 use Rattle.dot.specs.Numbers.{text}
 use Rattle.dot.specs.Text.{isBlank, joint}
 use Rattle.dot.specs.Plan.{Slot, cell, coefficient, Item, gap, num, one, kind, plan, bytes, numbers, label, lines, header}
-use Rattle.dot.specs.Reading.{isDigit, canMinus, limit, byteOf, Num, none, minus, some, Read, put, ended, Outcome, drawn, fault, run, reading}
+use Rattle.dot.specs.Reading.{isDigit, canMinus, limit, byteOf, Num, none, minus, some, Gathered, put, ended, Outcome, drawn, fault, run, reading}
 use Rattle.drawing.specs.declared.Cursor.{Cursor}
 use Rattle.drawing.specs.declared.Reader.{Reader}
 
@@ -22,11 +22,11 @@ shifted i (drawn r) = drawn r
 shifted i (fault p) = fault (i + p)
 
 -- the outcome from byte i on
-unfoldable pub from : List ℕ → ℕ → List Item → Read → Num → Outcome
+unfoldable pub from : List ℕ → ℕ → List Item → Gathered → Num → Outcome
 from t i k r x = shifted i (run (drop i t) k r x)
 
 -- the outcome from where a cursor stands
-unfoldable pub reached : List ℕ → Cursor → List Item → Read → Outcome
+unfoldable pub reached : List ℕ → Cursor → List Item → Gathered → Outcome
 reached t c k r = fault (c .place) if c .stuck else from t (c .place) k r none
 
 -- ---- bytes
@@ -47,14 +47,14 @@ goesOn x v most = isDigit x && not (eqb v 0) && leb (v * 10 + (x - 48)) most
 pub record Skipped (t : List ℕ) (i j : ℕ) : Type 0 where
   pub within : j ≤ length t
   pub onward : i ≤ j
-  pub on : (k : List Item) (r : Read) → from t i (gap ∷ k) r none ≡ from t j k r none
+  pub on : (k : List Item) (r : Gathered) → from t i (gap ∷ k) r none ≡ from t j k r none
 
 -- d stands after the plan w, or where it can't be followed
 pub record Followed (t : List ℕ) (c : Cursor) (w : List ℕ) (d : Cursor) : Type 0 where
   pub within : d .place ≤ length t
   pub free : d .stuck ≡ false → c .stuck ≡ false
   pub onward : c .place ≤ d .place
-  pub on : (k : List Item) (r : Read) → reached t c (plan w k) r ≡ reached t d k r
+  pub on : (k : List Item) (r : Gathered) → reached t c (plan w k) r ≡ reached t d k r
 
 -- d stands after a number, signed or not, whose byte it has
 pub record Counted (t : List ℕ) (c : Cursor) (signed : Bool) (d : Cursor) : Type 0 where
@@ -63,7 +63,7 @@ pub record Counted (t : List ℕ) (c : Cursor) (signed : Bool) (d : Cursor) : Ty
   pub onward : c .place ≤ d .place
   pub further : d .stuck ≡ false → c .place + 1 ≤ d .place
   pub small : d .value < 256
-  pub on : (s : Slot) (k : List Item) (r : Read) → canMinus s ≡ signed → ended k ≡ false →
+  pub on : (s : Slot) (k : List Item) (r : Gathered) → canMinus s ≡ signed → ended k ≡ false →
       reached t c (num s ∷ k) r ≡ reached t d k (put s (d .value) r)
 
 -- what is read of a number before its digits
@@ -81,20 +81,20 @@ pub record Digits (t : List ℕ) (i : ℕ) (signed neg : Bool) (d : Cursor) : Ty
   pub onward : i ≤ d .place
   pub further : d .stuck ≡ false → i + 1 ≤ d .place
   pub small : d .value < 256
-  pub on : (s : Slot) (k : List Item) (r : Read) → canMinus s ≡ signed → ended k ≡ false →
+  pub on : (s : Slot) (k : List Item) (r : Gathered) → canMinus s ≡ signed → ended k ≡ false →
       from t i (num s ∷ k) r (begun neg) ≡ reached t d k (put s (d .value) r)
 
 -- d stands after the rest of its digits
-pub record Rest (t : List ℕ) (i v : ℕ) (signed neg : Bool) (d : Cursor) : Type 0 where
+pub record RestOfDigits (t : List ℕ) (i v : ℕ) (signed neg : Bool) (d : Cursor) : Type 0 where
   pub within : d .place ≤ length t
   pub onward : i ≤ d .place
   pub small : d .value < 256
-  pub on : (s : Slot) (k : List Item) (r : Read) → canMinus s ≡ signed → ended k ≡ false →
+  pub on : (s : Slot) (k : List Item) (r : Gathered) → canMinus s ≡ signed → ended k ≡ false →
       from t i (num s ∷ k) r (some neg v) ≡ reached t d k (put s (d .value) r)
 
 -- ---- labels
 -- what has been read, with more bytes of the records
-abbrev pub more : List ℕ → Read → Read
+abbrev pub more : List ℕ → Gathered → Gathered
 more w r = record { types = r .types; factor = r .factor; states = r .states; rules = r .rules; last = r .last; body = r .body ++ w }
 
 -- the slot of a label's numbers
@@ -113,7 +113,7 @@ pub record Numbered (t : List ℕ) (c : Cursor) (j : ℕ) (signed : Bool) (d : C
   pub onward : c .place ≤ d .place
   pub further : d .stuck ≡ false → c .place + 1 ≤ d .place
   pub small : d .value < 256
-  pub on : (k : List Item) (r : Read) → ended k ≡ false →
+  pub on : (k : List Item) (r : Gathered) → ended k ≡ false →
       reached t c (bytes (joint j) (num (cellOf signed) ∷ k)) r ≡ reached t d k (more (d .value ∷ []) r)
 
 -- d stands after a piece of plan that has g numbers, and their bytes are put into `out` from n on
@@ -125,4 +125,4 @@ pub record Labelled (t : List ℕ) (c : Cursor) (g : ℕ) (piece : List Item →
   pub values : List ℕ
   pub count : length values ≡ g
   pub bytes-put : left ≡ stored out n values
-  pub on : (k : List Item) (r : Read) → ended k ≡ false → reached t c (piece k) r ≡ reached t d k (more values r)
+  pub on : (k : List Item) (r : Gathered) → ended k ≡ false → reached t c (piece k) r ≡ reached t d k (more values r)

@@ -1,15 +1,15 @@
 -- What `draw` and `undraw` answer and leave, for every table, text and lent bytes (Q-1, "Reading", "Writing").
-use mathlib.Core.Bool.{Bool, _||_}
 use mathlib.Core.List.{List, [], _∷_, _++_}
-use Prim.Native.Nat.{ℕ, _+_, _*_, _/_, _%_, _≤_}
+use Prim.Native.Nat.{ℕ, _+_, _*_, _/_, _%_}
 use lib.ListN.{length, drop}
 use Rattle.fault.specs.declared.Verdict.{Verdict}
 use Rattle.fault.specs.declared.Answer.{Answer}
-use Rattle.fault.specs.Tests.{_below_, _differs_, outside}
+use Rattle.fault.specs.Tests.{_below_, _differs_}
 use Rattle.fault.specs.Fault.{verdict, refused, nothingDone, _if_else_}
-use Rattle.table.specs.Refusals.{tableFault}
+use Rattle.table.specs.Refusals.{countsOutside, tableFault}
+use Rattle.table.specs.Table.{ruleBytes, recordsBytes}
 use Rattle.dot.specs.Text.{drawingOf}
-use Rattle.dot.specs.Reading.{Read, Outcome, drawn, fault, reading}
+use Rattle.dot.specs.Reading.{Gathered, Outcome, drawn, fault, reading}
 
 -- ---- the table that a text draws
 -- a number of two bytes, the low one first
@@ -17,29 +17,17 @@ abbrev pub twoBytes : ℕ → List ℕ → List ℕ
 twoBytes x w = x % 256 ∷ x / 256 ∷ w
 
 -- distances to the first state and the first rule, states, rules, types, factor
-unfoldable pub trailerOf : ℕ → ℕ → ℕ → ℕ → List ℕ
-trailerOf n m T k = twoBytes (2 * n + m * (2 + 3 * T)) (twoBytes (m * (2 + 3 * T)) (n ∷ m ∷ T ∷ k ∷ []))
+unfoldable pub trailerFor : ℕ → ℕ → ℕ → ℕ → List ℕ
+trailerFor n m T k = twoBytes (recordsBytes n m T) (twoBytes (m * ruleBytes T) (n ∷ m ∷ T ∷ k ∷ []))
 
 -- its records and the trailer
-unfoldable pub tableOf : Read → List ℕ
-tableOf r = r .body ++ trailerOf (r .states) (r .rules) (r .types) (r .factor)
-
--- 2: a count or k that no table has
-unfoldable pub strange : ℕ → ℕ → ℕ → ℕ → Bool
-strange n m T k = outside 1 16 n || outside 1 64 m || outside 1 4 T || outside 1 8 k
-
--- counts that are not, and how many bytes the records then have at most
-pub record Fine (n m T k : ℕ) : Type 0 where
-  pub states : n ≤ 16
-  pub rules : m ≤ 64
-  pub types : T ≤ 4
-  pub factor : k ≤ 8
-  pub room : 2 * n + m * (2 + 3 * T) ≤ 928
+unfoldable pub tableOf : Gathered → List ℕ
+tableOf r = r .body ++ trailerFor (r .states) (r .rules) (r .types) (r .factor)
 
 -- 60 with the place; then 2; then 4 to 8 as for the table
 unfoldable pub drawnFault : Outcome → Verdict
 drawnFault (fault p) = verdict 60 p
-drawnFault (drawn r) = refused 2 if strange (r .states) (r .rules) (r .types) (r .factor) else tableFault (tableOf r)
+drawnFault (drawn r) = refused 2 if countsOutside (r .states) (r .rules) (r .types) (r .factor) else tableFault (tableOf r)
 
 unfoldable pub drawnTable : Outcome → List ℕ
 drawnTable (fault p) = []

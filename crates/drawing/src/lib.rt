@@ -3,8 +3,10 @@ ghost use mathlib.Core.Path.{_≡_};
 ghost use Prim.Native.Nat.{_/_, _%_, _≤_, _<_};
 ghost use lib.ListN.{length};
 ghost use Rattle.pen.specs.Pen.{stored};
+ghost use Rattle.table.specs.Table.{mostRecords, mostTable};
 ghost use Rattle.table.specs.Refusals.{tableFault};
-ghost use Rattle.drawing.specs.Entry.{trailerOf, strange, Fine, given, left, drawAnswer, drawBytes, undrawAnswer, undrawBytes};
+ghost use Rattle.table.specs.Facts.{CountsFit};
+ghost use Rattle.drawing.specs.Entry.{trailerFor, given, left, drawAnswer, drawBytes, undrawAnswer, undrawBytes};
 use fault::Answer;
 
 pub mod pieces; // a text read piece by piece
@@ -52,14 +54,13 @@ pub fn undraw(text: &[u8], out: &mut [u8]) -> Answer
     ensures { λ r. ⌜ r ≡ undrawAnswer (now (text .entry)) (length (now (out .entry))) ⌝ }
     ensures { λ r. ⌜ now (out .exit) ≡ undrawBytes (now (text .entry)) (now (out .entry)) ⌝ }
 {
-    // The most that a table has: 16 states of 2 bytes, 64 rules of 14, a trailer of 8.
-    let mut table = [0u8; 936];
+    let mut table = [0u8; table::MOST_BYTES];
     undraw_in(text, &mut table, out)
 }
 
 // The same, with room for the largest table.
 fn undraw_in(text: &[u8], table: &mut [u8], out: &mut [u8]) -> Answer
-    requires { ⌜ length (now table) ≡ 936 ⌝ }
+    requires { ⌜ length (now table) ≡ mostTable ⌝ }
     ensures { λ r. ⌜ r ≡ undrawAnswer (now (text .entry)) (length (now (out .entry))) ⌝ }
     ensures { λ r. ⌜ now (out .exit) ≡ undrawBytes (now (text .entry)) (now (out .entry)) ⌝ }
 {
@@ -67,31 +68,21 @@ fn undraw_in(text: &[u8], table: &mut [u8], out: &mut [u8]) -> Answer
     if g.stuck {
         return fault::answered(60, g.place, 0);
     }
-    if counts_off(g) {
+    if table::counts_outside(g.states, g.rules, g.types, g.factor) {
         return fault::answered(2, 0, 0);
     }
     close(g, table);
-    let n = g.made + 8;
+    let n = g.made + fault::TRAILER_BYTES;
     give(&table[..n], out)
-}
-
-// Has it a count that no table has?
-fn counts_off(g: Reader) -> bool
-    ensures { λ r. ⌜ r ≡ strange (g .states) (g .rules) (g .types) (g .factor) ⌝ }
-{
-    fault::outside(1, 16, g.states)
-        | fault::outside(1, 64, g.rules)
-        | fault::outside(1, 4, g.types)
-        | fault::outside(1, 8, g.factor)
 }
 
 // The trailer after the records.
 fn close(g: Reader, table: &mut [u8])
-    requires { ⌜ (Fine (g .states) (g .rules) (g .types) (g .factor)) × (g .made ≤ 928) ⌝ }
-    ensures { λ r. ⌜ now (table .exit) ≡ stored (now (table .entry)) (g .made) (trailerOf (g .states) (g .rules) (g .types) (g .factor)) ⌝ }
+    requires { ⌜ (CountsFit (g .states) (g .rules) (g .types) (g .factor)) × (g .made ≤ mostRecords) ⌝ }
+    ensures { λ r. ⌜ now (table .exit) ≡ stored (now (table .entry)) (g .made) (trailerFor (g .states) (g .rules) (g .types) (g .factor)) ⌝ }
 {
-    let rules = fault::times(g.rules, 2 + 3 * g.types);
-    let all = 2 * g.states + rules;
+    let rules = fault::times(g.rules, table::END_BYTES + table::TYPE_BYTES * g.types);
+    let all = table::STATE_BYTES * g.states + rules;
     let trailer = [
         low(all),
         high(all),

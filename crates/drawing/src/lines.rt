@@ -1,16 +1,16 @@
 // A drawing line by line. What is read of the table's records is kept in `out`, so far as it fits.
 ghost use mathlib.Core.Path.{_≡_};
-ghost use mathlib.Core.Bool.{true, false, _||_, not, _&&_};
+ghost use mathlib.Core.Bool.{true, false, _||_, not};
 ghost use Prim.Native.Nat.{_+_, _≤_, _<_};
 ghost use lib.ListN.{length};
-ghost use Rattle.drawing.specs.Lines.{Known, Arrow, Stood, Headed, Closed, Told, onLines, onName, onState, onRule, onEnd};
+ghost use Rattle.drawing.specs.Lines.{Known, Arrow, Stood, Headed, Closed, Finished, onLines, onName, onState, onRule};
 use crate::Cursor;
 use crate::Reader;
 use crate::pieces;
 
 // The whole text.
 pub fn read(text: &[u8], out: &mut [u8]) -> Reader
-    ensures { λ g. ⌜ (Told (now (text .entry)) g (now (out .exit))) × (length (now (out .exit)) ≡ length (now (out .entry))) ⌝ }
+    ensures { λ g. ⌜ (Finished (now (text .entry)) g (now (out .exit))) × (length (now (out .exit)) ≡ length (now (out .entry))) ⌝ }
 {
     let mut g = header(text);
     while going(g) {
@@ -122,7 +122,14 @@ fn state_line(text: &[u8], g: Reader, i: usize, v: usize, out: &mut [u8]) -> Rea
     requires { ⌜ (i ≤ length (now text)) × (g .place + 1 ≤ i) × (Known (now text) g (now out) (onState (now text) i v)) ⌝ }
     ensures { λ h. ⌜ Stood (now (text .entry)) (g .place) h (now (out .exit)) ⌝ }
 {
-    let c = pieces::label(text, pieces::stand(i), 2, false, out, g.made);
+    let c = pieces::label(
+        text,
+        pieces::stand(i),
+        table::STATE_BYTES,
+        false,
+        out,
+        g.made,
+    );
     Reader {
         place: c.place,
         stuck: c.stuck,
@@ -131,7 +138,7 @@ fn state_line(text: &[u8], g: Reader, i: usize, v: usize, out: &mut [u8]) -> Rea
         factor: g.factor,
         states: g.states + 1,
         rules: g.rules,
-        made: g.made + 2,
+        made: g.made + table::STATE_BYTES,
     }
 }
 
@@ -142,7 +149,14 @@ fn rule_line(text: &[u8], g: Reader, i: usize, v: usize, out: &mut [u8]) -> Read
 {
     let to = ends(text, i, v, out, g.made);
     let b = pieces::follow(text, to, b"~[");
-    let c = pieces::label(text, b, 3 * g.types, true, out, g.made + 2);
+    let c = pieces::label(
+        text,
+        b,
+        table::TYPE_BYTES * g.types,
+        true,
+        out,
+        g.made + table::END_BYTES,
+    );
     Reader {
         place: c.place,
         stuck: c.stuck,
@@ -151,7 +165,7 @@ fn rule_line(text: &[u8], g: Reader, i: usize, v: usize, out: &mut [u8]) -> Read
         factor: g.factor,
         states: g.states,
         rules: g.rules + 1,
-        made: g.made + 2 + 3 * g.types,
+        made: g.made + table::END_BYTES + table::TYPE_BYTES * g.types,
     }
 }
 

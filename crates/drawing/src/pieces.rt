@@ -2,15 +2,16 @@
 ghost use mathlib.Core.Path.{_≡_};
 ghost use mathlib.Core.Bool.{true, false, not, _&&_};
 ghost use mathlib.Core.List.{[], _∷_};
-ghost use Prim.Native.Nat.{_+_, _≤_, _<_};
+ghost use Prim.Native.Nat.{_+_, _*_, _≤_, _<_};
 ghost use lib.Dec.{eqb};
 ghost use lib.ListN.{length};
-ghost use Rattle.pen.specs.Pen.{stored};
+ghost use Rattle.table.specs.Table.{typeBytes};
+ghost use Rattle.pen.specs.Pen.{stored, places};
 ghost use Rattle.dot.specs.Text.{isBlank};
 ghost use Rattle.dot.specs.Text as texts;
 ghost use Rattle.dot.specs.Plan as plans;
 ghost use Rattle.dot.specs.Reading.{isDigit, limit, byteOf};
-ghost use Rattle.drawing.specs.Cursor.{peeked, asked, goesOn, cellOf, Begun, Skipped, Followed, Counted, Digits, Rest, labelThen, Numbered, Labelled};
+ghost use Rattle.drawing.specs.Cursor.{peeked, asked, goesOn, cellOf, Begun, Skipped, Followed, Counted, Digits, RestOfDigits, labelThen, Numbered, Labelled};
 use crate::Cursor;
 
 // At a place, free to go on.
@@ -157,7 +158,7 @@ fn begins(x: usize, negative: bool) -> bool
 // The digits after the first, so far as the number stays in its range.
 fn rest(text: &[u8], i: usize, v: usize, signed: bool, negative: bool) -> Cursor
     requires { ⌜ (i ≤ length (now text)) × (v < 10) × (negative ≡ true → 1 ≤ v) ⌝ }
-    ensures { λ d. ⌜ Rest (now (text .entry)) i v signed negative d ⌝ }
+    ensures { λ d. ⌜ RestOfDigits (now (text .entry)) i v signed negative d ⌝ }
 {
     let most = largest(signed, negative);
     let mut j = i;
@@ -211,7 +212,7 @@ fn byte_of(negative: bool, v: usize) -> usize
 // ---- labels
 // A label of some numbers and the end of its line, from after the bracket on; their bytes are put into `out` from n on.
 pub fn label(text: &[u8], c: Cursor, count: usize, signed: bool, out: &mut [u8], n: usize) -> Cursor
-    requires { ⌜ (c .place ≤ length (now text)) × (count ≤ 765) × (n ≤ 9223372036854775810) ⌝ }
+    requires { ⌜ (c .place ≤ length (now text)) × (count ≤ typeBytes * 255) × (n ≤ 9223372036854775810) ⌝ }
     ensures { λ d. ⌜ Labelled (now (text .entry)) c count (labelThen (cellOf signed) count) d n (now (out .entry)) (now (out .exit)) ⌝ }
 {
     let a = follow(text, c, b"~label~=~\"");
@@ -221,7 +222,7 @@ pub fn label(text: &[u8], c: Cursor, count: usize, signed: bool, out: &mut [u8],
 
 // The numbers of a label.
 fn numbers(text: &[u8], c: Cursor, count: usize, signed: bool, out: &mut [u8], n: usize) -> Cursor
-    requires { ⌜ (c .place ≤ length (now text)) × (count ≤ 765) × (n ≤ 9223372036854775810) ⌝ }
+    requires { ⌜ (c .place ≤ length (now text)) × (count ≤ typeBytes * 255) × (n ≤ 9223372036854775810) ⌝ }
     ensures { λ d. ⌜ Labelled (now (text .entry)) c count (plans.numbers (cellOf signed) count 0) d n (now (out .entry)) (now (out .exit)) ⌝ }
 {
     let mut d = c;
@@ -235,7 +236,7 @@ fn numbers(text: &[u8], c: Cursor, count: usize, signed: bool, out: &mut [u8], n
 
 // Number j of a label, whose byte is put at n.
 fn number_at(text: &[u8], c: Cursor, j: usize, signed: bool, out: &mut [u8], n: usize) -> Cursor
-    requires { ⌜ (c .place ≤ length (now text)) × (n < 18446744073709551615) ⌝ }
+    requires { ⌜ (c .place ≤ length (now text)) × (n < places) ⌝ }
     ensures { λ d. ⌜ (Numbered (now (text .entry)) c j signed d) × (now (out .exit) ≡ stored (now (out .entry)) n (d .value ∷ [])) ⌝ }
 {
     let d = number(text, joint(text, c, j), signed);
@@ -251,7 +252,7 @@ fn joint(text: &[u8], c: Cursor, j: usize) -> Cursor
     if j == 0 {
         return c;
     }
-    if j % 3 == 0 {
+    if j % table::TYPE_BYTES == 0 {
         return follow(text, c, b", ");
     }
     follow(text, c, b" ")

@@ -12,12 +12,12 @@ use Rattle.bundle.specs.Bundle.{tableInUse, stepsOf}
 use Rattle.bundle.specs.Refusals.{readFault}
 use Rattle.bundle.specs.Facts.{Read}
 use Rattle.bundle.proofs.BundleLaws.{read-by, read-within}
-use Rattle.paper.proofs.RunLaws.{length-steps, RanWithin, run-within}
+use Rattle.schedule.proofs.RecordLaws.{length-steps}
+use Rattle.paper.proofs.RunLaws.{RanWithin, run-within}
 use Rattle.fault.specs.declared.Answer.{Answer}
-use Rattle.engine.specs.Design.{sizesOf}
-use Rattle.rules.specs.Design.{designOf}
+use Rattle.engine.specs.Design.{sizesOf, designWith, sizesIn}
 use Rattle.words.specs.Words.{roomOf}
-use Rattle.engine.specs.Entry.{scheduleOf, startOf, sizesIn, ranWith, ranOf, ranAnswer, runAnswer}
+use Rattle.engine.specs.Entry.{scheduleOf, startIn, ranWith, ranOf, ranAnswer, runAnswer}
 
 -- refusals go to 31, places and a schedule's steps to 4,096; a count to n
 pub record AnswerWithin (n : ℕ) (a : Answer) : Type 0 where
@@ -34,7 +34,7 @@ schedule-few t b R =
 pub ran-within : (t b : List ℕ) → Read t b → RanWithin 4096 (ranWith t b)
 unfolding ranWith
 ran-within t b R =
-    let W = run-within (sizesOf t b .form) (designOf (sizesOf t b) t) (startOf t b) (scheduleOf b) in
+    let W = run-within (sizesOf t b .level) (designWith t b) (startIn (sizesOf t b) b) (scheduleOf b) in
     record { accepted = omega (arith, W .accepted, schedule-few t b R); refusal = W .refusal }
 
 pub run-answer-within : (b standing : List ℕ) (lent : ℕ) → AnswerWithin 4096 (runAnswer b standing lent)

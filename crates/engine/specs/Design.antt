@@ -1,18 +1,23 @@
--- The numbers of a bundle and its table, and the steps that its bytes name.
+-- The numbers of a bundle and its table, and the design that they come to.
 use mathlib.Core.List.{List}
-use Prim.Native.Nat.{ℕ, _+_, _*_}
-use Rattle.fault.specs.Bytes.{byteAt}
+use Prim.Native.Nat.{ℕ, _*_}
 use Rattle.table.specs.Table.{rulesOf, typesOf}
-use Rattle.bundle.specs.Bundle.{tOf, fOf, formOf, correctOf}
-use Rattle.paper.specs.Paper.{Step}
+use Rattle.bundle.specs.Bundle.{tOf, fOf, formOf, levelOf, correctOf, tableInUse}
+use Rattle.paper.specs.Paper.{Design}
 use Rattle.paper.specs.Form.{wide}
 use Rattle.words.specs.declared.Sizes.{Sizes}
-use Rattle.step.specs.Step.{stepOf}
+use Rattle.rules.specs.Design.{designOf}
 
--- the numbers that a run goes by, from the trailers of the table and the bundle
+-- the numbers that stepping goes by, from the trailers of the table and the bundle
 abbrev pub sizesOf : List ℕ → List ℕ → Sizes
-sizesOf table b = record { form = formOf b; correct = correctOf b; faulty = fOf b; t = tOf b; types = typesOf table; rules = rulesOf table; wide = wide (formOf b); row = typesOf table * wide (formOf b) }
+sizesOf table b = record { level = levelOf (formOf b); correct = correctOf b; faulty = fOf b; types = typesOf table; rules = rulesOf table; wide = wide (levelOf (formOf b)); row = typesOf table * wide (levelOf (formOf b)) }
 
--- the step that record i of the step bytes names
-abbrev pub recordAt : List ℕ → ℕ → Step
-recordAt bytes i = stepOf (byteAt bytes (i * 4)) (byteAt bytes (i * 4 + 1)) (byteAt bytes (i * 4 + 2)) (byteAt bytes (i * 4 + 3))
+abbrev pub designWith : List ℕ → List ℕ → Design
+designWith table b = designOf (sizesOf table b) (tOf b) table
+
+-- ---- beside a standing table
+abbrev pub sizesIn : List ℕ → List ℕ → Sizes
+sizesIn b standing = sizesOf (tableInUse b standing) b
+
+abbrev pub designIn : List ℕ → List ℕ → Design
+designIn b standing = designWith (tableInUse b standing) b

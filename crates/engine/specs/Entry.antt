@@ -5,37 +5,31 @@ use lib.Dec.{eqb}
 use lib.ListN.{length, drop}
 use Rattle.fault.specs.Tests.{_below_, _differs_}
 use Rattle.fault.specs.Fault.{refused, nothingDone, _if_else_}
+use Rattle.fault.specs.declared.Answer.{Answer}
 use Rattle.bundle.specs.Bundle.{tableInUse, startsOf, stepsOf}
 use Rattle.bundle.specs.Refusals.{readFault}
-use Rattle.paper.specs.Paper.{Design, Step}
+use Rattle.paper.specs.Paper.{Step}
 use Rattle.paper.specs.Words.{start}
 use Rattle.paper.specs.Form.{wide}
-use Rattle.paper.specs.Run.{stepsIn, Ran, run}
+use Rattle.schedule.specs.Records.{stepsIn}
+use Rattle.paper.specs.Run.{Ran, run}
 use Rattle.words.specs.declared.Sizes.{Sizes}
-use Rattle.fault.specs.declared.Answer.{Answer}
-use Rattle.engine.specs.Design.{sizesOf}
-use Rattle.rules.specs.Design.{designOf}
 use Rattle.words.specs.Words.{roomOf}
+use Rattle.engine.specs.Design.{sizesOf, designWith, sizesIn}
 
 -- ---- a bundle with its table in use
 abbrev pub scheduleOf : List ℕ → List Step
 scheduleOf b = stepsIn (stepsOf b)
 
 -- the first configuration: the start states, nothing received, nothing sent
-abbrev pub startOf : List ℕ → List ℕ → List ℕ
-startOf table b = start (sizesOf table b .types) (wide (sizesOf table b .form)) (startsOf b)
+abbrev pub startIn : Sizes → List ℕ → List ℕ
+startIn s b = start (s .types) (wide (s .level)) (startsOf b)
 
 -- the schedule, run from there
 unfoldable pub ranWith : List ℕ → List ℕ → Ran
-ranWith table b = run (sizesOf table b .form) (designOf (sizesOf table b) table) (startOf table b) (scheduleOf b)
+ranWith table b = run (sizesOf table b .level) (designWith table b) (startIn (sizesOf table b) b) (scheduleOf b)
 
--- ---- beside a standing table
-abbrev pub sizesIn : List ℕ → List ℕ → Sizes
-sizesIn b standing = sizesOf (tableInUse b standing) b
-
-abbrev pub designIn : List ℕ → List ℕ → Design
-designIn b standing = designOf (sizesIn b standing) (tableInUse b standing)
-
+-- beside a standing table
 abbrev pub ranOf : List ℕ → List ℕ → Ran
 ranOf b standing = ranWith (tableInUse b standing) b
 
@@ -56,4 +50,4 @@ unfoldable pub runWords : List ℕ → List ℕ → List ℕ → List ℕ
 runWords b standing words =
     words if readFault b standing .number differs 0 else
     words if length words below roomOf (sizesIn b standing) else
-    ranOf b standing .words ++ drop (roomOf (sizesIn b standing)) words
+    ranOf b standing .left ++ drop (roomOf (sizesIn b standing)) words

@@ -1,2 +1,3 @@
 pub mod Design
 pub mod Entry
+pub mod Open

@@ -9,6 +9,9 @@ byteAt s i = getD s i 0
 abbrev pub u16At : List ℕ → ℕ → ℕ
 u16At s i = byteAt s i + 256 * byteAt s (i + 1)
 
--- a trailer is the last eight bytes of its part
+-- a trailer is the last bytes of its part
+abbrev pub trailerBytes : ℕ
+trailerBytes = 8
+
 abbrev pub trailerOf : List ℕ → ℕ
-trailerOf s = length s - 8
+trailerOf s = length s - trailerBytes

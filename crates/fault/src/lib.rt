@@ -2,9 +2,12 @@
 ghost use mathlib.Core.Path.{_≡_};
 ghost use Prim.Native.Nat.{_+_, _-_, _*_, _≤_, _<_};
 ghost use lib.ListN.{length};
-ghost use Rattle.fault.specs.Bytes.{byteAt, u16At, trailerOf};
+ghost use Rattle.fault.specs.Bytes.{byteAt, u16At, trailerBytes, trailerOf};
 ghost use Rattle.fault.specs.Tests as tests;
 ghost use Rattle.fault.specs.Fault.{verdict};
+
+// A trailer is the last bytes of its part.
+pub const TRAILER_BYTES: usize = 8;
 
 // A refusal and its place; 0 and 0 where nothing is refused.
 pub struct Verdict {
@@ -57,10 +60,10 @@ pub fn byte_at(s: &[u8], i: usize) -> usize
     requires { ⌜ i < length (now s) ⌝ }
     ensures { λ r. ⌜ (r ≡ byteAt (now (s .entry)) i) × (r < 256) ⌝ }
 {
-    wide(s[i])
+    as_number(s[i])
 }
 
-fn wide(x: u8) -> usize
+fn as_number(x: u8) -> usize
     ensures { λ r. ⌜ (r ≡ x) × (r < 256) ⌝ }
 {
     x as usize
@@ -68,17 +71,17 @@ fn wide(x: u8) -> usize
 
 // Byte k of the trailer.
 pub fn trailer_byte(s: &[u8], k: usize) -> usize
-    requires { ⌜ (8 ≤ length (now s)) × (k < 8) ⌝ }
+    requires { ⌜ (trailerBytes ≤ length (now s)) × (k < trailerBytes) ⌝ }
     ensures { λ r. ⌜ (r ≡ byteAt (now (s .entry)) (trailerOf (now (s .entry)) + k)) × (r < 256) ⌝ }
 {
-    byte_at(s, s.len() - 8 + k)
+    byte_at(s, s.len() - TRAILER_BYTES + k)
 }
 
 // The little-endian number at bytes k and k + 1 of the trailer.
 pub fn trailer_u16(s: &[u8], k: usize) -> usize
-    requires { ⌜ (8 ≤ length (now s)) × (k < 7) ⌝ }
+    requires { ⌜ (trailerBytes ≤ length (now s)) × (k + 1 < trailerBytes) ⌝ }
     ensures { λ r. ⌜ (r ≡ u16At (now (s .entry)) (trailerOf (now (s .entry)) + k)) × (r < 65536) ⌝ }
 {
-    let at = s.len() - 8 + k;
+    let at = s.len() - TRAILER_BYTES + k;
     byte_at(s, at) + 256 * byte_at(s, at + 1)
 }

@@ -1,4 +1,5 @@
 pub mod SeekLaws
+pub mod KeptLaws
 pub mod TryLaws
 pub mod EntryLaws
 pub mod BoundLaws

@@ -1,27 +1,54 @@
--- A step is accepted exactly when the paper's relation holds for it, and its words are then the ones that the relation gives.
-use mathlib.Core.Path.{_≡_, refl, sym, ap, _∙_, subst⁻¹}
+-- A step is accepted exactly when the paper's relation holds for it, since each check is one of its parts; and its words are then the ones that the
+-- relation gives, since receipt, move and send change what it says and no other view.
+use mathlib.Core.Path.{_≡_, refl, sym, ap, _∙_, subst}
 use mathlib.Core.Logic.{_≢_}
-use mathlib.Core.Bool.{Bool, true, false, not, _&&_, _||_, true≢false}
+use mathlib.Core.Bool.{Bool, true, false, not, _&&_, _||_}
 use mathlib.Core.List.{List}
-use Prim.Native.Nat.{ℕ, suc, _+_, _≤_, _<_}
+use Prim.Native.Nat.{ℕ, _+_, _≤_, _<_}
 use native.Mathlib.Nat.{le-refl}
-use native.Mathlib.Decide.{ℕ-discrete}
 use native.Mathlib.Omega.{arith}
 use lib.Dec.{eqb}
 use lib.ListN.{length, set, length-set}
-use borrow.Author.Tests.{leb-false, lt-leb, eq-eqb, ne-eqb, not-false}
+use borrow.Author.Tests.{leb-false, lt-leb, eq-eqb, eqb-true, eqb-false, not-false}
 use Rattle.senders.specs.Tally.{digit}
 use Rattle.senders.proofs.TallyLaws.{every-each, every-made}
 use Rattle.fault.specs.Tests.{_atLeast_}
 use Rattle.fault.specs.Fault.{_if_else_}
-use Rattle.fault.proofs.FaultLaws.{if-passed, if-no, if-most}
+use Rattle.fault.proofs.FaultLaws.{if-passed, if-keeps, if-no, if-most}
 use Rattle.fault.proofs.TestLaws.{or-none, same}
-use Rattle.paper.specs.Paper.{Design, Interp, Conf, Step, newly, silent, Hears, Moves, Same}
-use Rattle.paper.specs.Words.{size, state, sent, hear, tell}
+use Rattle.paper.specs.Paper.{Design, Interp, Conf, Step, newly, silent, Kind, silence, message, kindOf, Coming, CanHear, added, Moves, Same}
+use Rattle.paper.specs.Words.{size, state, sent, hear}
 use Rattle.paper.specs.Form.{wide, slot, bump, shown}
-use Rattle.paper.specs.Step.{columnOf, rcvdOf, sentOf, view, countOf, heard, stepped, malformed, notInTransit, notMet, stepFault}
+use Rattle.paper.specs.Step.{columnOf, rcvdIn, sentIn, view, countOf, receipt, heard, stepped, outOfRange, malformed, notComing, notInTransit, notMet, stepFault}
+use Rattle.paper.proofs.Cases.{yes-no, same-or}
 use Rattle.paper.proofs.WordLaws.{length-hear, state-hear, sent-hear, cell-hear-same, cell-hear-other, state-move-same, state-move-other, cell-move, sent-move, length-tell, state-tell, cell-tell, sent-tell}
 use Rattle.paper.proofs.FormLaws.{slot-below, coll-same, coll-bump, shown-bump, card-add}
+
+-- ---- the kind of a step
+pub kind-silent : (s : Step) → silent s ≡ true → kindOf s ≡ silence
+unfolding kindOf _if_else_
+kind-silent s e = rw e
+
+pub kind-message : (s : Step) → silent s ≡ false → kindOf s ≡ message (s .type) (s .source)
+unfolding kindOf _if_else_
+kind-message s e = rw e
+
+-- what holds without a message and with one holds for its kind
+pub by-kind : (P : Kind → Type 0) (s : Step) → (silent s ≡ true → P silence) → (silent s ≡ false → P (message (s .type) (s .source))) → P (kindOf s)
+unfolding kindOf
+by-kind P s = if-keeps P silence (silent s) (message (s .type) (s .source))
+
+-- a function of the kind, as a test of the bytes
+pub kind-if : {A : Type 0} (f : Kind → A) (s : Step) → f (kindOf s) ≡ (f silence if silent s else f (message (s .type) (s .source)))
+unfolding _if_else_
+kind-if f s = by-kind (λ (κ : Kind). f κ ≡ (f silence if silent s else f (message (s .type) (s .source)))) s (λ e. rw e) (λ e. rw e)
+
+unless-silent : (f : Kind → Bool) (s : Step) → f silence ≡ false → f (kindOf s) ≡ (not (silent s) && f (message (s .type) (s .source)))
+unless-silent f s h = by-kind (λ (κ : Kind). f κ ≡ (not (silent s) && f (message (s .type) (s .source)))) s (λ e. rw e h) (λ e. rw e)
+
+-- a message that comes, of a type that is m
+pub coming-at : {d : Design} {I : Interp} {t q : ℕ} {rcvd sent : ℕ → I .Coll} → Coming d I t q rcvd sent → (m : ℕ) → eqb t m ≡ true → I .inTransit q (rcvd m) (sent m) ≡ true
+coming-at {d} {I} {t} {q} {rcvd} {sent} H m z = subst (λ (x : ℕ). I .inTransit q (rcvd x) (sent x) ≡ true) (eqb-true t m z) (H .transit)
 
 -- ---- what the checks tell, one by one
 -- the message that a step names
@@ -35,45 +62,99 @@ pub record Arrives (k : ℕ) (d : Design) (w : List ℕ) (s : Step) : Type 0 whe
   pub rule : s .rule < d .rules
   pub leaves : state w (s .board) ≡ d .from (s .rule)
   pub named : silent s ≡ false → Named k d s
-  pub transit : silent s ≡ false → columnOf k d .inTransit (s .source) (rcvdOf k d w (s .board) (s .type)) (sentOf k d w (s .type)) ≡ true
+  pub transit : silent s ≡ false → columnOf k d .inTransit (s .source) (rcvdIn k d w (s .board) (s .type)) (sentIn k d w (s .type)) ≡ true
 
 -- all six
 pub record Accepted (k : ℕ) (d : Design) (w : List ℕ) (s : Step) : Type 0 where
   pub arrives : Arrives k d w s
   pub met : (m : ℕ) → m < d .types → d .met (s .rule) m (countOf k d (heard k d w s) (s .board) m) ≡ true
 
--- what words v show that come after the receipt
-record Shows (k : ℕ) (d : Design) (w : List ℕ) (s : Step) (v : List ℕ) : Type 0 where
+-- what words v show that come after a receipt of board p
+record Shows (k : ℕ) (d : Design) (w : List ℕ) (p : ℕ) (κ : Kind) (v : List ℕ) : Type 0 where
   states : (q : ℕ) → q < d .boards → state v q ≡ state w q
-  sents : (m : ℕ) → sentOf k d v m ≡ sentOf k d w m
-  others : (q m : ℕ) → q < d .boards → m < d .types → q ≢ s .board → rcvdOf k d v q m ≡ rcvdOf k d w q m
-  nothing : silent s ≡ true → (m : ℕ) → m < d .types → rcvdOf k d v (s .board) m ≡ rcvdOf k d w (s .board) m
-  message : silent s ≡ false → Hears d (columnOf k d) s (view k d w) (view k d v)
+  sents : (m : ℕ) → sentIn k d v m ≡ sentIn k d w m
+  others : (q m : ℕ) → q < d .boards → m < d .types → q ≢ p → rcvdIn k d v q m ≡ rcvdIn k d w q m
+  mine : (m : ℕ) → m < d .types → rcvdIn k d v p m ≡ added (columnOf k d) κ (rcvdIn k d w p) m
 
-one-more : (n : ℕ) (b : Bool) → b ≡ true → suc n ≡ n + digit b
-one-more n b e = rw e (omega arith)
+-- the message is of type m
+abbrev names : Kind → ℕ → Bool
+names silence m = false
+names (message t q) m = eqb t m
 
-no-more : (n : ℕ) (b : Bool) → b ≡ false → n ≡ n + digit b
-no-more n b e = rw e (omega arith)
+-- ---- by the kind of a step
+module _ (k : ℕ) (d : Design) (w : List ℕ) (p : ℕ) where
+  abbrev Hears : Kind → Type 0
+  Hears κ = CanHear d (columnOf k d) κ (rcvdIn k d w p) (sentIn k d w)
 
-unless : (a b : Bool) → (not a && b) ≡ false → a ≡ false → b ≡ false
-unless a b h e = rw e at h
+  formed : (κ : Kind) → Hears κ → outOfRange k d κ ≡ false
+  formed silence H = refl
+  formed (message m q) H = rw (lt-leb _ _ (H .type), lt-leb _ _ (H .source))
 
-unless-made : (a b : Bool) → (a ≡ false → b ≡ false) → (not a && b) ≡ false
-unless-made true b f = refl
-unless-made false b f = f refl
+  coming : (κ : Kind) → Hears κ → notComing k d w p κ ≡ false
+  coming silence H = refl
+  coming (message m q) H = ap not (H .transit)
 
-or-none-made : (a b : Bool) → a ≡ false → b ≡ false → (a || b) ≡ false
-or-none-made a b p q = rw (p, q)
+  length-receipt : (κ : Kind) → length (receipt k d w p κ) ≡ length w
+  length-receipt silence = refl
+  length-receipt (message m q) = length-hear (d .boards) (d .types) (wide k) w _ _ _ _
+
+  card-added : (κ : Kind) → Hears κ → (m : ℕ) → columnOf k d .card (added (columnOf k d) κ (rcvdIn k d w p) m) ≡ countOf k d w p m + digit (names κ m)
+  unfolding _if_else_
+  card-added silence H m = omega arith
+  card-added (message t q) H m = go (eqb t m) refl
+    where
+      go : (b : Bool) → eqb t m ≡ b → columnOf k d .card (columnOf k d .add q (rcvdIn k d w p m) if b else rcvdIn k d w p m) ≡ countOf k d w p m + digit b
+      go true z = card-add k (d .boards) (d .faulty) q _ _ (H .source) (coming-at H m z) ∙ omega arith
+      go false z = omega arith
+
+  module _ (l : length w ≡ size (d .boards) (d .types) (wide k)) (hp : p < d .boards) where
+    shows : (κ : Kind) → Hears κ → Shows k d w p κ (receipt k d w p κ)
+    shows silence H = record { states = λ q h. refl; sents = λ m. refl; others = λ q m hq hm o. refl; mine = λ m hm. refl }
+    shows (message m q) H =
+        let C = d .boards in
+        let T = d .types in
+        let e = slot k q in
+        let g = bump k q in
+        let he = slot-below k C (d .faulty) q (H .source) in
+        let v = hear C T (wide k) p m e g w in
+        let other = cell-hear-other C T (wide k) w l p m e g hp (H .type) he in
+        record {
+          states = state-hear C T (wide k) w l p m e g hp (H .type) he;
+          sents = λ j. ap (shown k C (d .faulty)) (sent-hear C T (wide k) w l p m e g hp (H .type) he j);
+          others = λ x j hx hj o. coll-same k C (d .faulty) _ _ (λ i hi. other x j i hj hi (λ r. o (r .0)));
+          mine = λ j hj.
+              if-keeps (λ (M : columnOf k d .Coll). rcvdIn k d v p j ≡ M) _ (eqb m j) _ (λ z. subst (λ (x : ℕ). rcvdIn k d v p x ≡ columnOf k d .add q (rcvdIn k d w p x)) (eqb-true m j z)
+              (coll-bump k C (d .faulty) q _ _ (H .source) (cell-hear-same C T (wide k) w l p m e g hp (H .type) he) (λ i hi o. other p m i (H .type) hi (λ r. o (r .2)))))
+              (λ z. coll-same k C (d .faulty) _ _ (λ i hi. other p j i hj hi (λ r. eqb-false m j z (sym (r .1)))));
+        }
 
 module _ (k : ℕ) (d : Design) (w : List ℕ) (s : Step) where
+  -- the definitions by kind, as tests of the bytes
+  pub malformed-if : malformed k d s ≡ (not (silent s) && (s .type atLeast d .types || s .source atLeast columnOf k d .sources))
+  unfolding malformed
+  malformed-if = unless-silent (outOfRange k d) s refl
+
+  pub transit-if : notInTransit k d w s ≡ (not (silent s) && not (columnOf k d .inTransit (s .source) (rcvdIn k d w (s .board) (s .type)) (sentIn k d w (s .type))))
+  unfolding notInTransit
+  transit-if = unless-silent (notComing k d w (s .board)) s refl
+
   pub named-of : malformed k d s ≡ false → silent s ≡ false → Named k d s
   unfolding malformed
-  named-of h e = let p = or-none (s .type atLeast d .types) _ (unless (silent s) _ h e) in record { type = leb-false _ _ (p .0); source = leb-false _ _ (p .1) }
+  named-of h e = let p = or-none (s .type atLeast d .types) _ (rw (kind-message s e) at h) in record { type = leb-false _ _ (p .0); source = leb-false _ _ (p .1) }
 
-  pub transit-of : notInTransit k d w s ≡ false → silent s ≡ false → columnOf k d .inTransit (s .source) (rcvdOf k d w (s .board) (s .type)) (sentOf k d w (s .type)) ≡ true
+  pub transit-of : notInTransit k d w s ≡ false → silent s ≡ false → columnOf k d .inTransit (s .source) (rcvdIn k d w (s .board) (s .type)) (sentIn k d w (s .type)) ≡ true
   unfolding notInTransit
-  transit-of h e = not-false _ (unless (silent s) _ h e)
+  transit-of h e = not-false _ (rw (kind-message s e) at h)
+
+  -- the message, by the kind and by the bytes
+  pub hears-of : Arrives k d w s → CanHear d (columnOf k d) (kindOf s) (rcvdIn k d w (s .board)) (sentIn k d w)
+  hears-of B = by-kind (Hears k d w (s .board)) s (λ e. tt) (λ e. record { type = B .named e .type; source = B .named e .source; transit = B .transit e })
+
+  pub arrives-by : s .board < d .boards → s .rule < d .rules → state w (s .board) ≡ d .from (s .rule) → CanHear d (columnOf k d) (kindOf s) (rcvdIn k d w (s .board)) (sentIn k d w)
+      → Arrives k d w s
+  arrives-by b r f H =
+      let one : silent s ≡ false → Coming d (columnOf k d) (s .type) (s .source) (rcvdIn k d w (s .board)) (sentIn k d w) = λ e. subst (Hears k d w (s .board)) (kind-message s e) H in
+      record { board = b; rule = r; leaves = f; named = λ e. record { type = one e .type; source = one e .source }; transit = λ e. one e .transit }
 
   zero-if : (n : ℕ) (t : Bool) (rest : ℕ) → (n ≡ 0 → ⊥) → (n if t else rest) ≡ 0 → (t ≡ false) × (rest ≡ 0)
   zero-if n t rest = if-passed (λ (x : ℕ). x ≡ 0) n t rest
@@ -98,8 +179,7 @@ module _ (k : ℕ) (d : Design) (w : List ℕ) (s : Step) where
       let B = A .arrives in
       sym (
       if-no 20 refl (lt-leb _ _ (B .board)) (if-no 21 refl (lt-leb _ _ (B .rule)) (if-no 22 refl (ap not (eq-eqb _ _ (B .leaves)))
-      (if-no 23 refl (unless-made (silent s) _ (λ e. or-none-made _ _ (lt-leb _ _ (B .named e .type)) (lt-leb _ _ (B .named e .source))))
-      (if-no 24 refl (unless-made (silent s) _ (λ e. ap not (B .transit e)))
+      (if-no 23 refl (formed k d w (s .board) (kindOf s) (hears-of B)) (if-no 24 refl (coming k d w (s .board) (kindOf s) (hears-of B))
       (if-no 25 refl (ap not (every-made (d .types) _ (A .met))) refl))))))
 
   pub step-most : stepFault k d w s ≤ 25
@@ -107,57 +187,36 @@ module _ (k : ℕ) (d : Design) (w : List ℕ) (s : Step) where
   step-most = if-most _ (omega arith) (if-most _ (omega arith) (if-most _ (omega arith) (if-most _ (omega arith) (if-most _ (omega arith) (if-most _ (omega arith) (omega arith))))))
 
   -- ---- the receipt
-  pub heard-nothing : silent s ≡ true → heard k d w s ≡ w
-  unfolding heard _if_else_
-  heard-nothing e = rw e
+  pub heard-silent : silent s ≡ true → heard k d w s ≡ w
+  unfolding heard
+  heard-silent e = ap (receipt k d w (s .board)) (kind-silent s e)
 
   pub heard-message : silent s ≡ false → heard k d w s ≡ hear (d .boards) (d .types) (wide k) (s .board) (s .type) (slot k (s .source)) (bump k (s .source)) w
-  unfolding heard _if_else_
-  heard-message e = rw e
+  unfolding heard
+  heard-message e = ap (receipt k d w (s .board)) (kind-message s e)
+
+  pub heard-if : heard k d w s ≡ (w if silent s else hear (d .boards) (d .types) (wide k) (s .board) (s .type) (slot k (s .source)) (bump k (s .source)) w)
+  unfolding heard
+  heard-if = kind-if (receipt k d w (s .board)) s
 
   pub length-heard : length (heard k d w s) ≡ length w
-  length-heard = go (silent s) refl
-    where
-      go : (b : Bool) → silent s ≡ b → length (heard k d w s) ≡ length w
-      go true e = ap length (heard-nothing e)
-      go false e = ap length (heard-message e) ∙ length-hear (d .boards) (d .types) (wide k) w _ _ _ _
+  unfolding heard
+  length-heard = length-receipt k d w (s .board) (kindOf s)
 
   pub length-stepped : length (stepped k d w s) ≡ length w
   unfolding stepped
   length-stepped = length-tell (d .boards) (d .types) (wide k) _ _ (d .types) _ ∙ length-set (heard k d w s) (s .board) (d .to (s .rule)) ∙ length-heard
 
   module _ (l : length w ≡ size (d .boards) (d .types) (wide k)) (B : Arrives k d w s) where
-    shows : Shows k d w s (heard k d w s)
-    shows = go (silent s) refl
-      where
-        go : (b : Bool) → silent s ≡ b → Shows k d w s (heard k d w s)
-        go true e = subst⁻¹ (Shows k d w s) (heard-nothing e) (record { states = λ q h. refl; sents = λ m. refl; others = λ q m hq hm o. refl; nothing = λ z m hm. refl; message = λ z. absurd (true≢false (sym e ∙ z)) })
-        go false e =
-            let C = d .boards in
-            let T = d .types in
-            let N = B .named e in
-            let p = s .board in
-            let m = s .type in
-            let i = slot k (s .source) in
-            let g = bump k (s .source) in
-            let hi = slot-below k C (d .faulty) (s .source) (N .source) in
-            subst⁻¹ (Shows k d w s) (heard-message e) (record {
-              states = state-hear C T (wide k) w l p m i g (B .board) (N .type) hi;
-              sents = λ j. ap (shown k C (d .faulty)) (sent-hear C T (wide k) w l p m i g (B .board) (N .type) hi j);
-              others = λ q j hq hj o. coll-same k C (d .faulty) _ _ (λ x hx. cell-hear-other C T (wide k) w l p m i g (B .board) (N .type) hi q j x hj hx (λ r. o (r .0)));
-              nothing = λ z. absurd (true≢false (sym z ∙ e));
-              message = λ z. record {
-                type = N .type;
-                source = N .source;
-                transit = B .transit e;
-                added = coll-bump k C (d .faulty) (s .source) _ _ (N .source) (cell-hear-same C T (wide k) w l p m i g (B .board) (N .type) hi)
-                    (λ x hx o. cell-hear-other C T (wide k) w l p m i g (B .board) (N .type) hi p m x (N .type) hx (λ r. o (r .2)));
-                others = λ j hj o. coll-same k C (d .faulty) _ _ (λ x hx. cell-hear-other C T (wide k) w l p m i g (B .board) (N .type) hi p j x hj hx (λ r. o (r .1)));
-              };
-            })
+    hears : Shows k d w (s .board) (kindOf s) (heard k d w s)
+    unfolding heard
+    hears = shows k d w (s .board) l (B .board) (kindOf s) (hears-of B)
+
+    pub rcvd-heard : (m : ℕ) → m < d .types → rcvdIn k d (heard k d w s) (s .board) m ≡ added (columnOf k d) (kindOf s) (rcvdIn k d w (s .board)) m
+    rcvd-heard = hears .mine
 
     -- ---- the whole step
-    rcvd-stepped : (q m : ℕ) → q < d .boards → m < d .types → rcvdOf k d (stepped k d w s) q m ≡ rcvdOf k d (heard k d w s) q m
+    rcvd-stepped : (q m : ℕ) → q < d .boards → m < d .types → rcvdIn k d (stepped k d w s) q m ≡ rcvdIn k d (heard k d w s) q m
     unfolding stepped
     rcvd-stepped q m hq hm =
         coll-same k (d .boards) (d .faulty) _ _ (λ i hi.
@@ -174,7 +233,7 @@ module _ (k : ℕ) (d : Design) (w : List ℕ) (s : Step) where
     unfolding stepped
     state-stepped-other q hq o =
         state-tell (d .boards) (d .types) (wide k) _ _ (d .types) _ q hq
-        ∙ state-move-other (d .boards) (d .types) (wide k) (heard k d w s) (length-heard ∙ l) (s .board) (d .to (s .rule)) (B .board) q o ∙ shows .states q hq
+        ∙ state-move-other (d .boards) (d .types) (wide k) (heard k d w s) (length-heard ∙ l) (s .board) (d .to (s .rule)) (B .board) q o ∙ hears .states q hq
 
     -- the sent word of a type, changed where the type is new
     sent-stepped : (m : ℕ) → m < d .types → (b : Bool) → newly d (d .from (s .rule)) (d .to (s .rule)) m ≡ b
@@ -193,18 +252,9 @@ module _ (k : ℕ) (d : Design) (w : List ℕ) (s : Step) where
 
     -- the counts after the receipt: one more of the type that was received
     pub count-heard : (m : ℕ) → m < d .types → countOf k d (heard k d w s) (s .board) m ≡ countOf k d w (s .board) m + digit (not (silent s) && eqb (s .type) m)
-    count-heard m hm = go (silent s) refl
-      where
-        go : (b : Bool) → silent s ≡ b → countOf k d (heard k d w s) (s .board) m ≡ countOf k d w (s .board) m + digit (not b && eqb (s .type) m)
-        go true e = ap (columnOf k d .card) (shows .nothing e m hm) ∙ no-more (countOf k d w (s .board) m) false refl
-        go false e = at (ℕ-discrete m (s .type)) (shows .message e)
-          where
-            at : Dec (m ≡ s .type) → Hears d (columnOf k d) s (view k d w) (view k d (heard k d w s)) → countOf k d (heard k d w s) (s .board) m ≡ countOf k d w (s .board) m + digit (eqb (s .type) m)
-            at (yes z) H =
-                subst⁻¹ (λ (x : ℕ). countOf k d (heard k d w s) (s .board) x ≡ countOf k d w (s .board) x + digit (eqb (s .type) x)) z
-                (ap (columnOf k d .card) (H .added) ∙ card-add k (d .boards) (d .faulty) (s .source) _ _ (H .source) (H .transit)
-                ∙ one-more (countOf k d w (s .board) (s .type)) (eqb (s .type) (s .type)) (eq-eqb (s .type) (s .type) refl))
-            at (no z) H = ap (columnOf k d .card) (H .others m hm z) ∙ no-more (countOf k d w (s .board) m) (eqb (s .type) m) (ne-eqb (s .type) m (λ y. z (sym y)))
+    count-heard m hm =
+        ap (columnOf k d .card) (rcvd-heard m hm) ∙ card-added k d w (s .board) (kindOf s) (hears-of B) m
+        ∙ ap (λ (b : Bool). countOf k d w (s .board) m + digit b) (unless-silent (λ κ. names κ m) s refl)
 
     moves : ((m : ℕ) → m < d .types → d .met (s .rule) m (countOf k d (heard k d w s) (s .board) m) ≡ true)
         → Moves d (columnOf k d) s (view k d w) (view k d (stepped k d w s))
@@ -212,22 +262,16 @@ module _ (k : ℕ) (d : Design) (w : List ℕ) (s : Step) where
     moves h =
         let C = d .boards in
         let f = d .faulty in
-        let mine : (m : ℕ) → m < d .types → rcvdOf k d (stepped k d w s) (s .board) m ≡ rcvdOf k d (heard k d w s) (s .board) m = λ m hm. rcvd-stepped (s .board) m (B .board) hm in
+        let mine : (m : ℕ) → m < d .types → rcvdIn k d (stepped k d w s) (s .board) m ≡ rcvdIn k d (heard k d w s) (s .board) m = λ m hm. rcvd-stepped (s .board) m (B .board) hm in
         record {
           board = B .board;
           local = record { rule = B .rule; leaves = B .leaves; enters = state-stepped-same; met = λ m hm. ap (λ (M : columnOf k d .Coll). d .met (s .rule) m (columnOf k d .card M)) (mine m hm) ∙ h m hm };
-          hears-nothing = λ e m hm. mine m hm ∙ shows .nothing e m hm;
-          hears = λ e. let H = shows .message e in record {
-            type = H .type;
-            source = H .source;
-            transit = H .transit;
-            added = mine (s .type) (H .type) ∙ H .added;
-            others = λ m hm o. mine m hm ∙ H .others m hm o;
-          };
-          sends = λ m hm e. ap (shown k C f) (sent-stepped m hm true (sym (newly-stepped m) ∙ e)) ∙ shown-bump k C f (s .board) _ ∙ ap (columnOf k d .add (columnOf k d .own (s .board))) (shows .sents m);
-          keeps = λ m hm e. ap (shown k C f) (sent-stepped m hm false (sym (newly-stepped m) ∙ e)) ∙ shows .sents m;
+          hears = hears-of B;
+          receives = λ m hm. mine m hm ∙ rcvd-heard m hm;
+          sends = λ m hm e. ap (shown k C f) (sent-stepped m hm true (sym (newly-stepped m) ∙ e)) ∙ shown-bump k C f (s .board) _ ∙ ap (columnOf k d .add (columnOf k d .own (s .board))) (hears .sents m);
+          keeps = λ m hm e. ap (shown k C f) (sent-stepped m hm false (sym (newly-stepped m) ∙ e)) ∙ hears .sents m;
           others-pc = state-stepped-other;
-          others-rcvd = λ q m hq hm o. rcvd-stepped q m hq hm ∙ shows .others q m hq hm o;
+          others-rcvd = λ q m hq hm o. rcvd-stepped q m hq hm ∙ hears .others q m hq hm o;
         }
 
   -- ---- accepted and the relation
@@ -237,28 +281,10 @@ module _ (k : ℕ) (d : Design) (w : List ℕ) (s : Step) where
   -- the relation to any configuration: the step is accepted
   module _ (l : length w ≡ size (d .boards) (d .types) (wide k)) (σ : Conf (columnOf k d .Coll)) (mv : Moves d (columnOf k d) s (view k d w) σ) where
     arrived : Arrives k d w s
-    arrived = record {
-      board = mv .board;
-      rule = mv .local .rule;
-      leaves = mv .local .leaves;
-      named = λ e. let H = mv .hears e in record { type = H .type; source = H .source };
-      transit = λ e. mv .hears e .transit;
-    }
+    arrived = arrives-by (mv .board) (mv .local .rule) (mv .local .leaves) (mv .hears)
 
-    same-rcvd : (m : ℕ) → m < d .types → σ .rcvd (s .board) m ≡ rcvdOf k d (heard k d w s) (s .board) m
-    same-rcvd m hm = go (silent s) refl
-      where
-        S : Shows k d w s (heard k d w s)
-        S = shows l arrived
-
-        go : (b : Bool) → silent s ≡ b → σ .rcvd (s .board) m ≡ rcvdOf k d (heard k d w s) (s .board) m
-        go true e = mv .hears-nothing e m hm ∙ sym (S .nothing e m hm)
-        go false e = at (ℕ-discrete m (s .type)) (mv .hears e) (S .message e)
-          where
-            at : Dec (m ≡ s .type) → Hears d (columnOf k d) s (view k d w) σ → Hears d (columnOf k d) s (view k d w) (view k d (heard k d w s))
-                → σ .rcvd (s .board) m ≡ rcvdOf k d (heard k d w s) (s .board) m
-            at (yes z) H G = subst⁻¹ (λ (x : ℕ). σ .rcvd (s .board) x ≡ rcvdOf k d (heard k d w s) (s .board) x) z (H .added ∙ sym (G .added))
-            at (no z) H G = H .others m hm z ∙ sym (G .others m hm z)
+    same-rcvd : (m : ℕ) → m < d .types → σ .rcvd (s .board) m ≡ rcvdIn k d (heard k d w s) (s .board) m
+    same-rcvd m hm = mv .receives m hm ∙ sym (rcvd-heard l arrived m hm)
 
     pub moves-step : stepFault k d w s ≡ 0
     moves-step = not-refused (record {
@@ -274,28 +300,14 @@ module _ (d : Design) (I : Interp) (s : Step) (σ σ′ σ″ : Conf (I .Coll)) 
   same-pc : σ′ .pc p ≡ σ″ .pc p
   same-pc = a .local .enters ∙ sym (b .local .enters)
 
-  same-heard : (m : ℕ) → m < d .types → σ′ .rcvd p m ≡ σ″ .rcvd p m
-  same-heard m hm = go (silent s) refl
-    where
-      go : (t : Bool) → silent s ≡ t → σ′ .rcvd p m ≡ σ″ .rcvd p m
-      go true e = a .hears-nothing e m hm ∙ sym (b .hears-nothing e m hm)
-      go false e = at (ℕ-discrete m (s .type)) (a .hears e) (b .hears e)
-        where
-          at : Dec (m ≡ s .type) → Hears d I s σ σ′ → Hears d I s σ σ″ → σ′ .rcvd p m ≡ σ″ .rcvd p m
-          at (yes z) H G = subst⁻¹ (λ (x : ℕ). σ′ .rcvd p x ≡ σ″ .rcvd p x) z (H .added ∙ sym (G .added))
-          at (no z) H G = H .others m hm z ∙ sym (G .others m hm z)
+  same-new : (m : ℕ) → newly d (σ .pc p) (σ″ .pc p) m ≡ newly d (σ .pc p) (σ′ .pc p) m
+  same-new m = ap (λ (x : ℕ). newly d (σ .pc p) x m) (sym same-pc)
 
   pub moves-one : Same d I σ′ σ″
-  moves-one = record { pc = λ q h. at-pc q h (ℕ-discrete q p); rcvd = λ q m h hm. at-rcvd q m h hm (ℕ-discrete q p); sent = λ m hm. at-sent m hm (newly d (σ .pc p) (σ′ .pc p) m) refl }
-    where
-      at-pc : (q : ℕ) → q < d .boards → Dec (q ≡ p) → σ′ .pc q ≡ σ″ .pc q
-      at-pc q h (yes e) = subst⁻¹ (λ (x : ℕ). σ′ .pc x ≡ σ″ .pc x) e same-pc
-      at-pc q h (no e) = a .others-pc q h e ∙ sym (b .others-pc q h e)
-
-      at-rcvd : (q m : ℕ) → q < d .boards → m < d .types → Dec (q ≡ p) → σ′ .rcvd q m ≡ σ″ .rcvd q m
-      at-rcvd q m h hm (yes e) = subst⁻¹ (λ (x : ℕ). σ′ .rcvd x m ≡ σ″ .rcvd x m) e (same-heard m hm)
-      at-rcvd q m h hm (no e) = a .others-rcvd q m h hm e ∙ sym (b .others-rcvd q m h hm e)
-
-      at-sent : (m : ℕ) → m < d .types → (t : Bool) → newly d (σ .pc p) (σ′ .pc p) m ≡ t → σ′ .sent m ≡ σ″ .sent m
-      at-sent m hm true e = a .sends m hm e ∙ sym (b .sends m hm (ap (λ (x : ℕ). newly d (σ .pc p) x m) (sym same-pc) ∙ e))
-      at-sent m hm false e = a .keeps m hm e ∙ sym (b .keeps m hm (ap (λ (x : ℕ). newly d (σ .pc p) x m) (sym same-pc) ∙ e))
+  moves-one = record {
+    pc = λ q h. same-or (λ (x : ℕ). σ′ .pc x ≡ σ″ .pc x) p q same-pc (λ o. a .others-pc q h o ∙ sym (b .others-pc q h o));
+    rcvd = λ q m h hm.
+        same-or (λ (x : ℕ). σ′ .rcvd x m ≡ σ″ .rcvd x m) p q (a .receives m hm ∙ sym (b .receives m hm)) (λ o. a .others-rcvd q m h hm o ∙ sym (b .others-rcvd q m h hm o));
+    sent = λ m hm.
+        yes-no (newly d (σ .pc p) (σ′ .pc p) m) (λ e. a .sends m hm e ∙ sym (b .sends m hm (same-new m ∙ e))) (λ e. a .keeps m hm e ∙ sym (b .keeps m hm (same-new m ∙ e)));
+  }

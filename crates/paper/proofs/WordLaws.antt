@@ -1,4 +1,5 @@
--- What a receipt, a move and a send change of the views, and what they leave; the views of the start; words with the same views.
+-- What a receipt, a move and a send change of the views, and what they leave, since each word has a place of its own; the views of the start;
+-- words with the same views are the same, since every place is in view.
 use mathlib.Core.Path.{_≡_, refl, sym, ap, _∙_, subst}
 use mathlib.Core.Logic.{_≢_}
 use mathlib.Core.Bool.{Bool, true, false}
@@ -11,18 +12,12 @@ use lib.Arith.{digits-lt, digits-div, digits-mod}
 use lib.ListN.{length, getD, set, replicate, length-set, length-replicate, length-append, List·getD-append}
 use lib.Seq.{getD-set-same, getD-set-other, getD-append-add, ext-getD}
 use Rattle.fault.specs.Fault.{_if_else_}
+use Rattle.fault.proofs.FaultLaws.{if-keeps}
 use Rattle.paper.specs.Words.{size, cellAt, sentAt, state, cell, sent, hear, tell, start}
 
 right-pos : (a b : ℕ) → 0 < a * b → 0 < b
 right-pos a zero h = rw mul-zero at h
 right-pos a (suc b) h = zero-lt-suc b
-
--- a change where the test says so
-module _ {A B : Type 0} (f : A → B) (x y : A) where
-  pub if-both : (t : Bool) (b : B) → f x ≡ b → f y ≡ b → f (x if t else y) ≡ b
-  unfolding _if_else_
-  if-both true b p q = p
-  if-both false b p q = q
 
 module _ (C T k : ℕ) where
   pub cell-below : (p m e : ℕ) → p < C → m < T → e < k → cellAt C T k p m e < sentAt C T k 0
@@ -99,7 +94,7 @@ module _ (C T k : ℕ) where
     pub length-tell : (n : ℕ) (v : List ℕ) → length (tell C T k new g n v) ≡ length v
     unfolding tell
     length-tell zero v = refl
-    length-tell (suc n) v = let u = tell C T k new g n v in if-both length (put u n) u (new n) (length v) (length-set u _ _ ∙ length-tell n v) (length-tell n v)
+    length-tell (suc n) v = let u = tell C T k new g n v in if-keeps (λ (x : List ℕ). length x ≡ length v) (put u n) (new n) u (λ e. length-set u _ _ ∙ length-tell n v) (λ e. length-tell n v)
 
     tell-before : (n : ℕ) (v : List ℕ) (i : ℕ) → i < sentAt C T k 0 → getD (tell C T k new g n v) i 0 ≡ getD v i 0
     unfolding tell sentAt
@@ -107,7 +102,7 @@ module _ (C T k : ℕ) where
     tell-before (suc n) v i h =
         let u = tell C T k new g n v in
         let ih = tell-before n v i h in
-        if-both (λ (x : List ℕ). getD x i 0) (put u n) u (new n) (getD v i 0) (getD-set-other u _ i _ 0 (omega arith) ∙ ih) ih
+        if-keeps (λ (x : List ℕ). getD x i 0 ≡ getD v i 0) (put u n) (new n) u (λ e. getD-set-other u _ i _ 0 (omega arith) ∙ ih) (λ e. ih)
 
     pub state-tell : (n : ℕ) (v : List ℕ) (q : ℕ) → q < C → state (tell C T k new g n v) q ≡ state v q
     unfolding state
@@ -123,7 +118,7 @@ module _ (C T k : ℕ) where
     sent-tell-above (suc n) v j h =
         let u = tell C T k new g n v in
         let ih = sent-tell-above n v j (omega arith) in
-        if-both (λ (x : List ℕ). sent C T k x j) (put u n) u (new n) (sent C T k v j) (put-other u n j (omega arith) ∙ ih) ih
+        if-keeps (λ (x : List ℕ). sent C T k x j ≡ sent C T k v j) (put u n) (new n) u (λ e. put-other u n j (omega arith) ∙ ih) (λ e. ih)
 
     -- each sent word: changed where its type is new
     module _ (v : List ℕ) (l : length v ≡ size C T k) where

@@ -1,4 +1,4 @@
--- How a form keeps the collections of its column in words (outline, "Configuration words"): sets in one word, bit q for sender
+-- How a level keeps the collections of its column in words (outline, "Configuration words"): sets in one word, bit q for sender
 -- q; two counts in two, the correct and then the faulty one; the plain count in one (Q-4). Sent messages are all correct, so that
 -- one word keeps them.
 use Prim.Native.Nat.{ℕ, zero, suc}

@@ -1,4 +1,4 @@
--- Section 3 of the paper (document 003): designs, the signature of Table 1 with a column for each form, and the transition
+-- Section 3 of the paper (document 003): designs, the signature of Table 1 with a column for each level, and the transition
 -- relation of Definition 3.2. Where the outline differs from the paper, its word is cited.
 use mathlib.Core.Path.{_≡_}
 use mathlib.Core.Logic.{_≢_}
@@ -8,6 +8,7 @@ use lib.Dec.{eqb}
 use Rattle.senders.specs.Tally.{count}
 use Rattle.senders.specs.Set.{mem, insert, missing}
 use Rattle.fault.specs.Tests.{_below_, _atLeast_}
+use Rattle.fault.specs.Fault.{_if_else_}
 
 -- ---- a design: what a table with n, t, f comes to. n is boards + faulty; boards count from 0, the correct ones first (outline)
 pub record Design : Type 0 where
@@ -98,7 +99,7 @@ plain C f = record {
   inTransit = λ q c c′. eqb q 0 && c below c′ + f;
 }
 
--- the form's number picks the column: 0 message, 1 counting, 2 plain
+-- the level picks the column: 0 message, 1 counting, 2 and above plain. Which level a form byte has is for reading to say
 abbrev pub column : ℕ → ℕ → ℕ → Interp
 column zero C f = passing C f
 column (suc zero) C f = counting C f
@@ -122,32 +123,57 @@ pub record Initial (d : Design) (I : Interp) (σ : Conf (I .Coll)) : Type 0 wher
   pub rcvd : (p m : ℕ) → p < d .boards → m < d .types → σ .rcvd p m ≡ I .init
   pub sent : (m : ℕ) → m < d .types → σ .sent m ≡ I .init
 
--- ---- a step, as a schedule names it (outline, "Bundle layout"); type and source 255 are no message
+-- ---- a step, as a schedule names it (outline, "Bundle layout")
 pub record Step : Type 0 where
   pub board : ℕ
   pub rule : ℕ
   pub type : ℕ
   pub source : ℕ
 
-abbrev pub silent : Step → Bool
-silent s = eqb (s .type) 255 && eqb (s .source) 255
+-- the type and the source of a step without a message (outline)
+abbrev pub noMessage : ℕ
+noMessage = 255
 
--- 2a of Definition 3.2, where the step names a message: it is in transit in σ, and received in σ′
-pub record Hears (d : Design) (I : Interp) (s : Step) (σ σ′ : Conf (I .Coll)) : Type 0 where
-  pub type : s .type < d .types
-  pub source : s .source < I .sources
-  pub transit : I .inTransit (s .source) (σ .rcvd (s .board) (s .type)) (σ .sent (s .type)) ≡ true
-  pub added : σ′ .rcvd (s .board) (s .type) ≡ I .add (s .source) (σ .rcvd (s .board) (s .type))
-  pub others : (m : ℕ) → m < d .types → m ≢ s .type → σ′ .rcvd (s .board) m ≡ σ .rcvd (s .board) m
+-- board p takes rule r, without a message
+abbrev pub alone : ℕ → ℕ → Step
+alone p r = record { board = p; rule = r; type = noMessage; source = noMessage }
+
+abbrev pub silent : Step → Bool
+silent s = eqb (s .type) noMessage && eqb (s .source) noMessage
+
+-- what a step is: without a message, or with one of a type from a source. What a step does goes by these cases, and only `silent` tests for 255
+pub data Kind : Type 0 where
+  silence : Kind
+  message : ℕ → ℕ → Kind
+
+unfoldable pub kindOf : Step → Kind
+kindOf s = silence if silent s else message (s .type) (s .source)
+
+-- ---- 2a of Definition 3.2, by the kind of a step
+-- a message there is, with inTransit(msg, rcvd, sent)
+pub record Coming (d : Design) (I : Interp) (m q : ℕ) (rcvd sent : ℕ → I .Coll) : Type 0 where
+  pub type : m < d .types
+  pub source : q < I .sources
+  pub transit : I .inTransit q (rcvd m) (sent m) ≡ true
+
+-- no message, or one in transit
+abbrev pub CanHear : (d : Design) (I : Interp) → Kind → (ℕ → I .Coll) → (ℕ → I .Coll) → Type 0
+CanHear d I silence rcvd sent = Unit {0}
+CanHear d I (message m q) rcvd sent = Coming d I m q rcvd sent
+
+-- rcvd, or add(msg, rcvd), at each type m: only the message's own type grows
+abbrev pub added : (I : Interp) → Kind → (ℕ → I .Coll) → ℕ → I .Coll
+added I silence rcvd m = rcvd m
+added I (message t q) rcvd m = I .add q (rcvd m) if eqb t m else rcvd m
 
 -- Definition 3.2, for the step s
 pub record Moves (d : Design) (I : Interp) (s : Step) (σ σ′ : Conf (I .Coll)) : Type 0 where
   pub board : s .board < d .boards
   -- 1: a local transition, at the counts after the receipt
   pub local : Leads d (s .rule) (σ .pc (s .board)) (λ m. I .card (σ′ .rcvd (s .board) m)) (σ′ .pc (s .board))
-  -- 2a: no message, or the one that is named
-  pub hears-nothing : silent s ≡ true → (m : ℕ) → m < d .types → σ′ .rcvd (s .board) m ≡ σ .rcvd (s .board) m
-  pub hears : silent s ≡ false → Hears d I s σ σ′
+  -- 2a: no message, or one that is in transit in σ; it is received in σ′
+  pub hears : CanHear d I (kindOf s) (σ .rcvd (s .board)) (σ .sent)
+  pub receives : (m : ℕ) → m < d .types → σ′ .rcvd (s .board) m ≡ added I (kindOf s) (σ .rcvd (s .board)) m
   -- 2b: sent grows by the board's message of each type that is new, and by nothing else
   pub sends : (m : ℕ) → m < d .types → newly d (σ .pc (s .board)) (σ′ .pc (s .board)) m ≡ true → σ′ .sent m ≡ I .add (I .own (s .board)) (σ .sent m)
   pub keeps : (m : ℕ) → m < d .types → newly d (σ .pc (s .board)) (σ′ .pc (s .board)) m ≡ false → σ′ .sent m ≡ σ .sent m

@@ -1,12 +1,12 @@
--- One step on words (outline, "One step"), for the form k: the first of the refusals 20 to 25, and the words after the step.
-use mathlib.Core.Bool.{Bool, not, _&&_, _||_}
+-- One step on the words of level k (outline, "One step"): the first of the refusals 20 to 25, and the words after the step.
+use mathlib.Core.Bool.{Bool, false, not, _||_}
 use mathlib.Core.List.{List}
 use Prim.Native.Nat.{ℕ}
 use lib.ListN.{set}
 use Rattle.senders.specs.Tally.{every}
 use Rattle.fault.specs.Tests.{_atLeast_, _differs_}
 use Rattle.fault.specs.Fault.{_if_else_}
-use Rattle.paper.specs.Paper.{Design, Interp, Conf, Step, column, newly, silent}
+use Rattle.paper.specs.Paper.{Design, Interp, Conf, Step, Kind, silence, message, kindOf, column, newly}
 use Rattle.paper.specs.Words.{state, cell, sent, hear, tell}
 use Rattle.paper.specs.Form.{wide, slot, bump, coll, shown}
 
@@ -14,22 +14,26 @@ use Rattle.paper.specs.Form.{wide, slot, bump, coll, shown}
 abbrev pub columnOf : ℕ → Design → Interp
 columnOf k d = column k (d .boards) (d .faulty)
 
-abbrev pub rcvdOf : (k : ℕ) (d : Design) → List ℕ → ℕ → ℕ → columnOf k d .Coll
-rcvdOf k d w p m = coll k (d .boards) (d .faulty) (cell (d .boards) (d .types) (wide k) w p m)
+abbrev pub rcvdIn : (k : ℕ) (d : Design) → List ℕ → ℕ → ℕ → columnOf k d .Coll
+rcvdIn k d w p m = coll k (d .boards) (d .faulty) (cell (d .boards) (d .types) (wide k) w p m)
 
-abbrev pub sentOf : (k : ℕ) (d : Design) → List ℕ → ℕ → columnOf k d .Coll
-sentOf k d w m = shown k (d .boards) (d .faulty) (sent (d .boards) (d .types) (wide k) w m)
+abbrev pub sentIn : (k : ℕ) (d : Design) → List ℕ → ℕ → columnOf k d .Coll
+sentIn k d w m = shown k (d .boards) (d .faulty) (sent (d .boards) (d .types) (wide k) w m)
 
 abbrev pub view : (k : ℕ) (d : Design) → List ℕ → Conf (columnOf k d .Coll)
-view k d w = record { pc = state w; rcvd = rcvdOf k d w; sent = sentOf k d w }
+view k d w = record { pc = state w; rcvd = rcvdIn k d w; sent = sentIn k d w }
 
 -- the messages of one type that board p counts
 abbrev pub countOf : ℕ → Design → List ℕ → ℕ → ℕ → ℕ
-countOf k d w p m = columnOf k d .card (rcvdOf k d w p m)
+countOf k d w p m = columnOf k d .card (rcvdIn k d w p m)
 
--- ---- the words after the receipt, and after the whole step
+-- ---- the words after the receipt, by the kind of the step, and after the whole step
+abbrev pub receipt : ℕ → Design → List ℕ → ℕ → Kind → List ℕ
+receipt k d w p silence = w
+receipt k d w p (message m q) = hear (d .boards) (d .types) (wide k) p m (slot k q) (bump k q) w
+
 unfoldable pub heard : ℕ → Design → List ℕ → Step → List ℕ
-heard k d w s = w if silent s else hear (d .boards) (d .types) (wide k) (s .board) (s .type) (slot k (s .source)) (bump k (s .source)) w
+heard k d w s = receipt k d w (s .board) (kindOf s)
 
 unfoldable pub stepped : ℕ → Design → List ℕ → Step → List ℕ
 stepped k d w s =
@@ -38,13 +42,20 @@ stepped k d w s =
 
 -- ---- the refusals
 -- 23: type or source out of range, or only one of the two is 255
+abbrev pub outOfRange : ℕ → Design → Kind → Bool
+outOfRange k d silence = false
+outOfRange k d (message m q) = m atLeast d .types || q atLeast columnOf k d .sources
+
 unfoldable pub malformed : ℕ → Design → Step → Bool
-malformed k d s = not (silent s) && (s .type atLeast d .types || s .source atLeast columnOf k d .sources)
+malformed k d s = outOfRange k d (kindOf s)
 
 -- 24: message not in transit
+abbrev pub notComing : ℕ → Design → List ℕ → ℕ → Kind → Bool
+notComing k d w p silence = false
+notComing k d w p (message m q) = not (columnOf k d .inTransit q (rcvdIn k d w p m) (sentIn k d w m))
+
 unfoldable pub notInTransit : ℕ → Design → List ℕ → Step → Bool
-notInTransit k d w s =
-    not (silent s) && not (columnOf k d .inTransit (s .source) (rcvdOf k d w (s .board) (s .type)) (sentOf k d w (s .type)))
+notInTransit k d w s = notComing k d w (s .board) (kindOf s)
 
 -- 25: a threshold is not met, by the counts after the receipt
 unfoldable pub notMet : ℕ → Design → List ℕ → Step → Bool

@@ -8,8 +8,9 @@ use lib.Dec.{eqb, ltb}
 use lib.ListN.{length, length-append}
 use Rattle.fault.specs.Bytes.{byteAt}
 use Rattle.fault.specs.Fault.{_if_else_}
-use Rattle.table.specs.Table.{statesOf, rulesOf, typesOf, factorOf}
+use Rattle.table.specs.Table.{statesOf, rulesOf, typesOf, factorOf, typeBytes, ruleBytes, mostTypes, stateBytes, endBytes}
 use Rattle.table.specs.Facts.{Sized}
+use Rattle.pen.specs.Pen.{mostHeadText, mostStateText, mostRuleText, mostDrawing}
 use Rattle.dot.specs.Numbers.{text, decimal, signed}
 use Rattle.dot.specs.Text.{Piece, written, chars, after, tight, aBlank, newLine, headText, joint, numbersText, labelText, stateText, ruleText, statesText, rulesText, endText, tableText, drawingOf}
 
@@ -42,7 +43,7 @@ signed-long b = split (ltb b 128)
 
 joint-long : (j : ℕ) → length (joint j) ≤ 2
 unfolding joint _if_else_
-joint-long j = split (eqb j 0) (eqb (j % 3) 0)
+joint-long j = split (eqb j 0) (eqb (j % typeBytes) 0)
   where
     split : (a b : Bool) → length ([] if a else text ", " if b else text " ") ≤ 2
     split true b = omega arith
@@ -79,10 +80,10 @@ module _ (spell : ℕ → List ℕ) (short : (b : ℕ) → length (spell b) ≤ 
         after-long tight (text ";") p,
       )
 
-state-long : (s : List ℕ) (i : ℕ) (p : List Piece) → length (written (stateText s i p)) ≤ 29 + length (written p)
+state-long : (s : List ℕ) (i : ℕ) (p : List Piece) → length (written (stateText s i p)) ≤ mostStateText + length (written p)
 unfolding stateText
 state-long s i p =
-    let p₁ = labelText decimal 2 s (2 * i) p in
+    let p₁ = labelText decimal stateBytes s (stateBytes * i) p in
     let p₂ = after aBlank (text "[") p₁ in
     omega (
       arith,
@@ -90,15 +91,15 @@ state-long s i p =
       chars-long (decimal i) p₂,
       decimal-long i,
       after-long aBlank (text "[") p₁,
-      label-long decimal (λ b. omega (arith, decimal-long b)) s 2 (2 * i) p,
+      label-long decimal (λ b. omega (arith, decimal-long b)) s stateBytes (stateBytes * i) p,
     )
 
-rule-long : (T : ℕ) (s : List ℕ) (at : ℕ) (p : List Piece) → T ≤ 4 → length (written (ruleText T s at p)) ≤ 97 + length (written p)
+rule-long : (T : ℕ) (s : List ℕ) (at : ℕ) (p : List Piece) → T ≤ mostTypes → length (written (ruleText T s at p)) ≤ mostRuleText + length (written p)
 unfolding ruleText
 rule-long T s at p h =
     let a = decimal (byteAt s at) in
     let b = decimal (byteAt s (at + 1)) in
-    let p₁ = labelText signed (3 * T) s (at + 2) p in
+    let p₁ = labelText signed (typeBytes * T) s (at + endBytes) p in
     let p₂ = after aBlank (text "[") p₁ in
     let p₃ = after aBlank (text "s") (chars b p₂) in
     let p₄ = after aBlank (text "->") p₃ in
@@ -112,21 +113,21 @@ rule-long T s at p h =
       chars-long b p₂,
       decimal-long (byteAt s (at + 1)),
       after-long aBlank (text "[") p₁,
-      label-long signed signed-long s (3 * T) (at + 2) p,
+      label-long signed signed-long s (typeBytes * T) (at + endBytes) p,
     )
 
-states-long : (x : ℕ) (s : List ℕ) (i : ℕ) (p : List Piece) → length (written (statesText x s i p)) ≤ 29 * x + length (written p)
+states-long : (x : ℕ) (s : List ℕ) (i : ℕ) (p : List Piece) → length (written (statesText x s i p)) ≤ mostStateText * x + length (written p)
 unfolding statesText
 states-long zero s i p = omega arith
 states-long (suc x) s i p = omega (arith, state-long s i (statesText x s (i + 1) p), states-long x s (i + 1) p)
 
-rules-long : (x T : ℕ) (s : List ℕ) (at : ℕ) (p : List Piece) → T ≤ 4 → length (written (rulesText x T s at p)) ≤ 97 * x + length (written p)
+rules-long : (x T : ℕ) (s : List ℕ) (at : ℕ) (p : List Piece) → T ≤ mostTypes → length (written (rulesText x T s at p)) ≤ mostRuleText * x + length (written p)
 unfolding rulesText
 rules-long zero T s at p h = omega arith
 rules-long (suc x) T s at p h =
-    omega (arith, rule-long T s at (rulesText x T s (at + (2 + 3 * T)) p) h, rules-long x T s (at + (2 + 3 * T)) p h)
+    omega (arith, rule-long T s at (rulesText x T s (at + ruleBytes T) p) h, rules-long x T s (at + ruleBytes T) p h)
 
-head-long : (T k : ℕ) (p : List Piece) → length (written (headText T k p)) ≤ 25 + length (written p)
+head-long : (T k : ℕ) (p : List Piece) → length (written (headText T k p)) ≤ mostHeadText + length (written p)
 unfolding headText written
 head-long T k p =
     let p₁ = after tight (text ";") p in
@@ -141,17 +142,16 @@ end-long : length (written endText) ≡ 3
 unfolding written
 end-long = refl
 
--- 6,700: a head, 16 states of 29 bytes, 64 rules of 97, an end
-pub drawing-short : (s : List ℕ) → Sized s → length (drawingOf s) ≤ 6700
+pub drawing-short : (s : List ℕ) → Sized s → length (drawingOf s) ≤ mostDrawing
 unfolding drawingOf tableText
 drawing-short s z =
-    let r = rulesText (rulesOf s) (typesOf s) s (2 * statesOf s) endText in
+    let r = rulesText (rulesOf s) (typesOf s) s (stateBytes * statesOf s) endText in
     omega (
       arith,
       z .few-states,
       z .few-rules,
       head-long (typesOf s) (factorOf s) (statesText (statesOf s) s 0 r),
       states-long (statesOf s) s 0 r,
-      rules-long (rulesOf s) (typesOf s) s (2 * statesOf s) endText (z .few-types),
+      rules-long (rulesOf s) (typesOf s) s (stateBytes * statesOf s) endText (z .few-types),
       end-long,
     )

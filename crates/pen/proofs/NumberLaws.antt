@@ -6,23 +6,24 @@ use mathlib.Core.List.{List, [], _∷_}
 use native.Mathlib.Omega.{arith}
 use borrow.Author.Tests.{lt-ltb, le-ltb, eq-eqb, ne-eqb}
 use Rattle.fault.specs.Fault.{_if_else_}
+use Rattle.table.specs.Table.{typeBytes}
 use Rattle.dot.specs.Numbers.{text, decimal, signed, spelling}
 use Rattle.dot.specs.Text.{joint}
 use Rattle.pen.specs.Pen.{stored, Put}
 use Rattle.pen.proofs.PenLaws.{put-none, put-byte, put-then}
 
 -- ---- digits
-pub one-digit : {out end : List ℕ} {n v b r : ℕ} → v < 10 → b ≡ 48 + v → r ≡ n + 1 → end ≡ stored out n (b ∷ []) → Put out n (decimal v) r end
+pub put-one-digit : {out end : List ℕ} {n v b r : ℕ} → v < 10 → b ≡ 48 + v → r ≡ n + 1 → end ≡ stored out n (b ∷ []) → Put out n (decimal v) r end
 unfolding decimal _if_else_
-one-digit {v = v} h e f g = rw (lt-ltb v 10 h, ← e) (put-byte f g)
+put-one-digit {v = v} h e f g = rw (lt-ltb v 10 h, ← e) (put-byte f g)
 
-pub two-digits : {out mid end : List ℕ} {n m v a b r : ℕ} → 10 ≤ v → v < 100 → a ≡ 48 + v / 10 → b ≡ 48 + v % 10 → m ≡ n + 1 → mid ≡ stored out n (a ∷ []) → r ≡ m + 1 → end ≡ stored mid m (b ∷ []) → Put out n (decimal v) r end
+pub put-two-digits : {out mid end : List ℕ} {n m v a b r : ℕ} → 10 ≤ v → v < 100 → a ≡ 48 + v / 10 → b ≡ 48 + v % 10 → m ≡ n + 1 → mid ≡ stored out n (a ∷ []) → r ≡ m + 1 → end ≡ stored mid m (b ∷ []) → Put out n (decimal v) r end
 unfolding decimal _if_else_
-two-digits {v = v} k h e e′ f g f′ g′ = rw (le-ltb v 10 k, lt-ltb v 100 h, ← e, ← e′) (put-then (put-byte f g) (put-byte f′ g′))
+put-two-digits {v = v} k h e e′ f g f′ g′ = rw (le-ltb v 10 k, lt-ltb v 100 h, ← e, ← e′) (put-then (put-byte f g) (put-byte f′ g′))
 
-pub three-digits : {out mid next end : List ℕ} {n m l v a b d r : ℕ} → 100 ≤ v → a ≡ 48 + v / 100 → b ≡ 48 + v / 10 % 10 → d ≡ 48 + v % 10 → m ≡ n + 1 → mid ≡ stored out n (a ∷ []) → l ≡ m + 1 → next ≡ stored mid m (b ∷ []) → r ≡ l + 1 → end ≡ stored next l (d ∷ []) → Put out n (decimal v) r end
+pub put-three-digits : {out mid next end : List ℕ} {n m l v a b d r : ℕ} → 100 ≤ v → a ≡ 48 + v / 100 → b ≡ 48 + v / 10 % 10 → d ≡ 48 + v % 10 → m ≡ n + 1 → mid ≡ stored out n (a ∷ []) → l ≡ m + 1 → next ≡ stored mid m (b ∷ []) → r ≡ l + 1 → end ≡ stored next l (d ∷ []) → Put out n (decimal v) r end
 unfolding decimal _if_else_
-three-digits {v = v} h e e′ e″ f g f′ g′ f″ g″ =
+put-three-digits {v = v} h e e′ e″ f g f′ g′ f″ g″ =
     let k : 10 ≤ v = omega arith in
     rw (le-ltb v 10 k, le-ltb v 100 h, ← e, ← e′, ← e″) (put-then (put-byte f g) (put-then (put-byte f′ g′) (put-byte f″ g″)))
 
@@ -42,14 +43,14 @@ pub spelt-signed : {out end : List ℕ} {n r : ℕ} {t : Bool} (b : ℕ) → t �
 spelt-signed b e p = rw e p
 
 -- ---- joint
-pub joint-none : {out : List ℕ} {n j : ℕ} → j ≡ 0 → Put out n (joint j) n out
+pub put-joint-none : {out : List ℕ} {n j : ℕ} → j ≡ 0 → Put out n (joint j) n out
 unfolding joint _if_else_
-joint-none {j = j} h = rw (eq-eqb j 0 h) put-none
+put-joint-none {j = j} h = rw (eq-eqb j 0 h) put-none
 
-pub joint-type : {out end : List ℕ} {n j r : ℕ} → (j ≡ 0 → ⊥) → j % 3 ≡ 0 → Put out n (text ", ") r end → Put out n (joint j) r end
+pub put-joint-type : {out end : List ℕ} {n j r : ℕ} → (j ≡ 0 → ⊥) → j % typeBytes ≡ 0 → Put out n (text ", ") r end → Put out n (joint j) r end
 unfolding joint _if_else_
-joint-type {j = j} h k p = rw (ne-eqb j 0 h, eq-eqb (j % 3) 0 k) p
+put-joint-type {j = j} h k p = rw (ne-eqb j 0 h, eq-eqb (j % typeBytes) 0 k) p
 
-pub joint-blank : {out end : List ℕ} {n j r : ℕ} → (j ≡ 0 → ⊥) → (j % 3 ≡ 0 → ⊥) → Put out n (text " ") r end → Put out n (joint j) r end
+pub joint-blank : {out end : List ℕ} {n j r : ℕ} → (j ≡ 0 → ⊥) → (j % typeBytes ≡ 0 → ⊥) → Put out n (text " ") r end → Put out n (joint j) r end
 unfolding joint _if_else_
-joint-blank {j = j} h k p = rw (ne-eqb j 0 h, ne-eqb (j % 3) 0 k) p
+joint-blank {j = j} h k p = rw (ne-eqb j 0 h, ne-eqb (j % typeBytes) 0 k) p

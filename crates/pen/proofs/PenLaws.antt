@@ -60,21 +60,21 @@ put-as e p = rw e p
 
 -- ---- the rest of a loop
 -- of a whole that is to be put at n₀ into out₀, the rest is still to be put at n into out
-pub record Rest (out₀ : List ℕ) (n₀ : ℕ) (whole out : List ℕ) (n : ℕ) (rest : List ℕ) : Type 0 where
+pub record RestPut (out₀ : List ℕ) (n₀ : ℕ) (whole out : List ℕ) (n : ℕ) (rest : List ℕ) : Type 0 where
   pub place : n + length rest ≡ n₀ + length whole
   pub bytes : stored out n rest ≡ stored out₀ n₀ whole
 
-pub rest-all : {out : List ℕ} {n : ℕ} {whole rest : List ℕ} → whole ≡ rest → Rest out n whole out n rest
+pub rest-all : {out : List ℕ} {n : ℕ} {whole rest : List ℕ} → whole ≡ rest → RestPut out n whole out n rest
 rest-all {out} {n} e = record { place = ap (λ (w : List ℕ). n + length w) (sym e); bytes = ap (stored out n) (sym e) }
 
-pub rest-less : {out₀ whole out mid v all rest : List ℕ} {n₀ n m : ℕ} → Rest out₀ n₀ whole out n all → all ≡ v ++ rest → Put out n v m mid → Rest out₀ n₀ whole mid m rest
+pub rest-less : {out₀ whole out mid v all rest : List ℕ} {n₀ n m : ℕ} → RestPut out₀ n₀ whole out n all → all ≡ v ++ rest → Put out n v m mid → RestPut out₀ n₀ whole mid m rest
 rest-less {out₀} {whole} {out} {mid} {v} {all} {rest} {n₀} {n} {m} l e p =
     record {
       place = omega (arith, p .place, l .place, length-append v rest, ap length e);
       bytes = rw (p .bytes) (stored-more out n m v rest (p .place) ∙ ap (stored out n) (sym e) ∙ l .bytes);
     }
 
-pub rest-none : {out₀ whole out rest : List ℕ} {n₀ n : ℕ} → Rest out₀ n₀ whole out n rest → rest ≡ [] → Put out₀ n₀ whole n out
+pub rest-none : {out₀ whole out rest : List ℕ} {n₀ n : ℕ} → RestPut out₀ n₀ whole out n rest → rest ≡ [] → Put out₀ n₀ whole n out
 rest-none {out₀} {whole} {out} {rest} {n₀} {n} l e =
     record {
       place = omega (arith, l .place, ap length e);
@@ -82,10 +82,10 @@ rest-none {out₀} {whole} {out} {rest} {n₀} {n} l e =
     }
 
 -- the bytes of a word, one by one
-pub word-more : {out₀ out mid : List ℕ} {n₀ n m : ℕ} (word : List ℕ) (i : ℕ) → Rest out₀ n₀ word out n (drop i word) → i < length word → m ≡ n + 1 → mid ≡ stored out n (getD word i 0 ∷ []) → Rest out₀ n₀ word mid m (drop (i + 1) word)
+pub word-more : {out₀ out mid : List ℕ} {n₀ n m : ℕ} (word : List ℕ) (i : ℕ) → RestPut out₀ n₀ word out n (drop i word) → i < length word → m ≡ n + 1 → mid ≡ stored out n (getD word i 0 ∷ []) → RestPut out₀ n₀ word mid m (drop (i + 1) word)
 word-more word i l h e f = rest-less l (rw (add-one, drop-cons word i 0)) (put-byte e f)
 
-pub word-over : {out₀ out : List ℕ} {n₀ n : ℕ} (word : List ℕ) (i : ℕ) → Rest out₀ n₀ word out n (drop i word) → length word ≤ i → Put out₀ n₀ word n out
+pub word-over : {out₀ out : List ℕ} {n₀ n : ℕ} (word : List ℕ) (i : ℕ) → RestPut out₀ n₀ word out n (drop i word) → length word ≤ i → Put out₀ n₀ word n out
 word-over word i l h = rest-none l (drop-of-length-le word h)
 
 -- ---- where all fits

@@ -5,7 +5,7 @@ use mathlib.Core.List.{List, [], _∷_, _++_, append-assoc, append-nil}
 use native.Mathlib.Nat.{add-mul, one-mul}
 use native.Mathlib.Omega.{arith}
 use Rattle.fault.specs.Bytes.{byteAt}
-use Rattle.table.specs.Table.{statesOf, rulesOf, typesOf, factorOf, ruleSize, ruleAt}
+use Rattle.table.specs.Table.{statesOf, rulesOf, typesOf, factorOf, ruleSize, ruleAt, typeBytes, ruleBytes, stateBytes, endBytes}
 use Rattle.dot.specs.Numbers.{text, decimal, signed}
 use Rattle.dot.specs.Text.{Piece, char, space, must, written, chars, after, tight, aBlank, newLine, headText, joint, numbersText, labelText, stateText, ruleText, statesText, rulesText, tableText, drawingOf}
 use Rattle.pen.specs.Pen.{alone, labelled}
@@ -98,11 +98,11 @@ module _ (spell : ℕ → List ℕ) (s : List ℕ) where
   numbers-over left j at h = let e : left ≡ 0 = omega arith in rw e
 
 -- ---- a state
-state-writes : (s : List ℕ) (i : ℕ) → Writes (stateText s i) (text "\ns" ++ decimal i ++ alone (labelled decimal 2 s (2 * i)))
+state-writes : (s : List ℕ) (i : ℕ) → Writes (stateText s i) (text "\ns" ++ decimal i ++ alone (labelled decimal stateBytes s (stateBytes * i)))
 unfolding stateText
-state-writes s i = writes-then (writes-then (writes-after newLine (text "s")) (writes-chars (decimal i))) (writes-itself (label-writes decimal s 2 (2 * i)))
+state-writes s i = writes-then (writes-then (writes-after newLine (text "s")) (writes-chars (decimal i))) (writes-itself (label-writes decimal s 2 (stateBytes * i)))
 
-pub state-is : (s : List ℕ) (i : ℕ) → alone (stateText s i) ≡ text "\ns" ++ decimal i ++ alone (labelled decimal 2 s (2 * i))
+pub state-is : (s : List ℕ) (i : ℕ) → alone (stateText s i) ≡ text "\ns" ++ decimal i ++ alone (labelled decimal stateBytes s (stateBytes * i))
 state-is s i = writes-alone (state-writes s i)
 
 module _ (s : List ℕ) where
@@ -128,33 +128,33 @@ module _ (s : List ℕ) where
 
 -- ---- a rule
 module _ (T : ℕ) (s : List ℕ) where
-  rule-writes : (at : ℕ) → Writes (ruleText T s at) (text "\ns" ++ decimal (byteAt s at) ++ (text " -> s" ++ decimal (byteAt s (at + 1)) ++ alone (labelled signed (3 * T) s (at + 2))))
+  rule-writes : (at : ℕ) → Writes (ruleText T s at) (text "\ns" ++ decimal (byteAt s at) ++ (text " -> s" ++ decimal (byteAt s (at + 1)) ++ alone (labelled signed (typeBytes * T) s (at + endBytes))))
   unfolding ruleText
   rule-writes at =
-      writes-then (writes-then (writes-after newLine (text "s")) (writes-chars (decimal (byteAt s at)))) (writes-then (writes-then rule-points (writes-chars (decimal (byteAt s (at + 1))))) (writes-itself (label-writes signed s (3 * T) (at + 2))))
+      writes-then (writes-then (writes-after newLine (text "s")) (writes-chars (decimal (byteAt s at)))) (writes-then (writes-then rule-points (writes-chars (decimal (byteAt s (at + 1))))) (writes-itself (label-writes signed s (typeBytes * T) (at + endBytes))))
 
-  pub rule-is : (at : ℕ) → alone (ruleText T s at) ≡ text "\ns" ++ decimal (byteAt s at) ++ (text " -> s" ++ decimal (byteAt s (at + 1)) ++ alone (labelled signed (3 * T) s (at + 2)))
+  pub rule-is : (at : ℕ) → alone (ruleText T s at) ≡ text "\ns" ++ decimal (byteAt s at) ++ (text " -> s" ++ decimal (byteAt s (at + 1)) ++ alone (labelled signed (typeBytes * T) s (at + endBytes)))
   rule-is at = writes-alone (rule-writes at)
 
   rules-writes : (x at : ℕ) → Writes (rulesText x T s at) (alone (rulesText x T s at))
   unfolding rulesText written
   rules-writes zero at = writes-nothing
-  rules-writes (suc x) at = writes-itself (writes-then (rule-writes at) (rules-writes x (at + (2 + 3 * T))))
+  rules-writes (suc x) at = writes-itself (writes-then (rule-writes at) (rules-writes x (at + ruleBytes T)))
 
-  rules-is : (x at : ℕ) → alone (rulesText (suc x) T s at) ≡ alone (ruleText T s at) ++ alone (rulesText x T s (at + (2 + 3 * T)))
+  rules-is : (x at : ℕ) → alone (rulesText (suc x) T s at) ≡ alone (ruleText T s at) ++ alone (rulesText x T s (at + ruleBytes T))
   unfolding rulesText
-  rules-is x at = writes-alone (writes-then (writes-itself (rule-writes at)) (rules-writes x (at + (2 + 3 * T))))
+  rules-is x at = writes-alone (writes-then (writes-itself (rule-writes at)) (rules-writes x (at + ruleBytes T)))
 
 -- where the next rule starts
-rule-next : (s : List ℕ) (k : ℕ) → ruleAt s (k + 1) ≡ ruleAt s k + (2 + 3 * typesOf s)
+rule-next : (s : List ℕ) (k : ℕ) → ruleAt s (k + 1) ≡ ruleAt s k + ruleBytes (typesOf s)
 unfolding ruleAt
 rule-next s k = omega (arith, add-mul k 1 (ruleSize s), one-mul (ruleSize s))
 
 -- the rest of a table's rules from k on
-pub rules-first : (s : List ℕ) → alone (rulesText (rulesOf s) (typesOf s) s (2 * statesOf s)) ≡ alone (rulesText (rulesOf s - 0) (typesOf s) s (ruleAt s 0))
+pub rules-first : (s : List ℕ) → alone (rulesText (rulesOf s) (typesOf s) s (stateBytes * statesOf s)) ≡ alone (rulesText (rulesOf s - 0) (typesOf s) s (ruleAt s 0))
 unfolding ruleAt
 rules-first s =
-    let e : 2 * statesOf s + 0 * ruleSize s ≡ 2 * statesOf s = omega arith in
+    let e : stateBytes * statesOf s + 0 * ruleSize s ≡ stateBytes * statesOf s = omega arith in
     let f : rulesOf s - 0 ≡ rulesOf s = omega arith in
     rw (e, f)
 
@@ -174,7 +174,7 @@ head-writes T k =
 pub head-is : (T k : ℕ) → alone (headText T k) ≡ text "digraph t {\nT=" ++ decimal T ++ (text "; k=" ++ decimal k ++ text ";")
 head-is T k = writes-alone (head-writes T k)
 
-pub drawing-is : (s : List ℕ) → drawingOf s ≡ alone (headText (typesOf s) (factorOf s)) ++ (alone (statesText (statesOf s) s 0) ++ (alone (rulesText (rulesOf s) (typesOf s) s (2 * statesOf s)) ++ text "\n}\n"))
+pub drawing-is : (s : List ℕ) → drawingOf s ≡ alone (headText (typesOf s) (factorOf s)) ++ (alone (statesText (statesOf s) s 0) ++ (alone (rulesText (rulesOf s) (typesOf s) s (stateBytes * statesOf s)) ++ text "\n}\n"))
 unfolding drawingOf tableText
 drawing-is s =
-    writes-alone (writes-then (writes-itself (head-writes (typesOf s) (factorOf s))) (writes-then (states-writes s (statesOf s) 0) (writes-then (rules-writes (typesOf s) s (rulesOf s) (2 * statesOf s)) end-writes)))
+    writes-alone (writes-then (writes-itself (head-writes (typesOf s) (factorOf s))) (writes-then (states-writes s (statesOf s) 0) (writes-then (rules-writes (typesOf s) s (rulesOf s) (stateBytes * statesOf s)) end-writes)))

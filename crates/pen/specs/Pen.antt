@@ -1,10 +1,11 @@
 -- Bytes put one after the other into lent memory, so far as they fit; and the parts of a drawing that are put so.
-use Prim.Native.Nat.{ℕ, _+_}
+use Prim.Native.Nat.{ℕ, _+_, _*_}
 use mathlib.Core.Path.{_≡_}
 use mathlib.Core.List.{List, [], _∷_}
 use lib.ListN.{length, set}
 use Rattle.fault.specs.Tests.{_below_}
 use Rattle.fault.specs.Fault.{_if_else_}
+use Rattle.table.specs.Table.{mostStates, mostRules}
 use Rattle.dot.specs.Numbers.{text}
 use Rattle.dot.specs.Text.{Piece, written, after, aBlank, labelText}
 
@@ -23,6 +24,26 @@ pub record Put (out : List ℕ) (n : ℕ) (w : List ℕ) (r : ℕ) (end : List �
   pub bytes : end ≡ stored out n w
 
 -- ---- parts of a drawing
+-- the most bytes of each
+abbrev pub mostHeadText : ℕ
+mostHeadText = 25
+
+abbrev pub mostStateText : ℕ
+mostStateText = 29
+
+abbrev pub mostRuleText : ℕ
+mostRuleText = 97
+
+abbrev pub mostStatesText : ℕ
+mostStatesText = mostStates * mostStateText
+
+abbrev pub mostRulesText : ℕ
+mostRulesText = mostRules * mostRuleText
+
+-- and of a drawing with its last line: 6,700
+abbrev pub mostDrawing : ℕ
+mostDrawing = mostHeadText + mostStatesText + mostRulesText + 3
+
 -- a part as it is written with nothing after it
 abbrev pub alone : (List Piece → List Piece) → List ℕ
 alone part = written (part [])

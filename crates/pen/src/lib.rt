@@ -3,17 +3,17 @@ ghost use mathlib.Core.Path.{_≡_};
 ghost use mathlib.Core.List.{[], _∷_, _++_};
 ghost use Prim.Native.Nat.{_+_, _*_, _≤_, _<_};
 ghost use lib.ListN.{length};
-ghost use Rattle.table.specs.Table.{statesOf, rulesOf, typesOf, factorOf, ruleAt};
+ghost use Rattle.table.specs.Table.{statesOf, rulesOf, typesOf, factorOf, ruleAt, stateBytes};
 ghost use Rattle.table.specs.Facts.{Sized};
 ghost use Rattle.dot.specs.Numbers.{decimal, spelling};
 ghost use Rattle.dot.specs.Numbers as numbers;
 ghost use Rattle.dot.specs.Text.{headText, joint, numbersText, stateText, ruleText, statesText, rulesText, drawingOf};
-ghost use Rattle.pen.specs.Pen.{places, stored, Put, alone, labelled};
+ghost use Rattle.pen.specs.Pen.{places, stored, Put, alone, labelled, mostHeadText, mostStateText, mostRuleText, mostStatesText, mostRulesText, mostDrawing};
 
 // The drawing of a table that was read, so far as it fits; and how many bytes it has.
 pub fn write(table: &[u8], out: &mut [u8]) -> usize
     requires { ⌜ Sized (now table) ⌝ }
-    ensures { λ r. ⌜ (r ≡ length (drawingOf (now (table .entry)))) × (r < 16777216) × (now (out .exit) ≡ stored (now (out .entry)) 0 (drawingOf (now (table .entry)))) ⌝ }
+    ensures { λ r. ⌜ (r ≡ length (drawingOf (now (table .entry)))) × (r ≤ mostDrawing) × (now (out .exit) ≡ stored (now (out .entry)) 0 (drawingOf (now (table .entry)))) ⌝ }
 {
     let n = put_head(out, 0, table);
     let n = put_states(out, n, table);
@@ -23,18 +23,18 @@ pub fn write(table: &[u8], out: &mut [u8]) -> usize
 
 // The head at n, up to the line feed before the first state; and the place after it.
 fn put_head(out: &mut [u8], n: usize, table: &[u8]) -> usize
-    requires { ⌜ (n + 25 ≤ places) × Sized (now table) ⌝ }
-    ensures { λ r. ⌜ Put (now (out .entry)) n (alone (headText (typesOf (now (table .entry))) (factorOf (now (table .entry))))) r (now (out .exit)) × (r ≤ n + 25) ⌝ }
+    requires { ⌜ (n + mostHeadText ≤ places) × Sized (now table) ⌝ }
+    ensures { λ r. ⌜ Put (now (out .entry)) n (alone (headText (typesOf (now (table .entry))) (factorOf (now (table .entry))))) r (now (out .exit)) × (r ≤ n + mostHeadText) ⌝ }
 {
     let n = put_numbered(out, n, b"digraph t {\nT=", table::types(table));
     let n = put_numbered(out, n, b"; k=", table::factor(table));
     put_all(out, n, b";")
 }
 
-// The lines of all states at n, at most 16 of 29 bytes; and the place after them.
+// The lines of all states at n; and the place after them.
 fn put_states(out: &mut [u8], n: usize, table: &[u8]) -> usize
-    requires { ⌜ (n + 464 ≤ places) × Sized (now table) ⌝ }
-    ensures { λ r. ⌜ Put (now (out .entry)) n (alone (statesText (statesOf (now (table .entry))) (now (table .entry)) 0)) r (now (out .exit)) × (r ≤ n + 464) ⌝ }
+    requires { ⌜ (n + mostStatesText ≤ places) × Sized (now table) ⌝ }
+    ensures { λ r. ⌜ Put (now (out .entry)) n (alone (statesText (statesOf (now (table .entry))) (now (table .entry)) 0)) r (now (out .exit)) × (r ≤ n + mostStatesText) ⌝ }
 {
     let states = table::states(table);
     let mut i = 0;
@@ -48,17 +48,24 @@ fn put_states(out: &mut [u8], n: usize, table: &[u8]) -> usize
 
 // The line of state i at n, and the place after it.
 fn put_state(out: &mut [u8], n: usize, table: &[u8], i: usize) -> usize
-    requires { ⌜ (n + 29 ≤ places) × Sized (now table) × (i < statesOf (now table)) ⌝ }
-    ensures { λ r. ⌜ Put (now (out .entry)) n (alone (stateText (now (table .entry)) i)) r (now (out .exit)) × (r ≤ n + 29) ⌝ }
+    requires { ⌜ (n + mostStateText ≤ places) × Sized (now table) × (i < statesOf (now table)) ⌝ }
+    ensures { λ r. ⌜ Put (now (out .entry)) n (alone (stateText (now (table .entry)) i)) r (now (out .exit)) × (r ≤ n + mostStateText) ⌝ }
 {
     let n = put_numbered(out, n, b"\ns", i);
-    put_label(out, n, table, 2 * i, 2, false)
+    put_label(
+        out,
+        n,
+        table,
+        table::STATE_BYTES * i,
+        table::STATE_BYTES,
+        false,
+    )
 }
 
-// The lines of all rules at n, at most 64 of 97 bytes; and the place after them.
+// The lines of all rules at n; and the place after them.
 fn put_rules(out: &mut [u8], n: usize, table: &[u8]) -> usize
-    requires { ⌜ (n + 6208 ≤ places) × Sized (now table) ⌝ }
-    ensures { λ r. ⌜ Put (now (out .entry)) n (alone (rulesText (rulesOf (now (table .entry))) (typesOf (now (table .entry))) (now (table .entry)) (2 * statesOf (now (table .entry))))) r (now (out .exit)) × (r ≤ n + 6208) ⌝ }
+    requires { ⌜ (n + mostRulesText ≤ places) × Sized (now table) ⌝ }
+    ensures { λ r. ⌜ Put (now (out .entry)) n (alone (rulesText (rulesOf (now (table .entry))) (typesOf (now (table .entry))) (now (table .entry)) (stateBytes * statesOf (now (table .entry))))) r (now (out .exit)) × (r ≤ n + mostRulesText) ⌝ }
 {
     let rules = table::rules(table);
     let mut k = 0;
@@ -72,13 +79,20 @@ fn put_rules(out: &mut [u8], n: usize, table: &[u8]) -> usize
 
 // The line of rule k at n, and the place after it.
 fn put_rule(out: &mut [u8], n: usize, table: &[u8], k: usize) -> usize
-    requires { ⌜ (n + 97 ≤ places) × Sized (now table) × (k < rulesOf (now table)) ⌝ }
-    ensures { λ r. ⌜ Put (now (out .entry)) n (alone (ruleText (typesOf (now (table .entry))) (now (table .entry)) (ruleAt (now (table .entry)) k))) r (now (out .exit)) × (r ≤ n + 97) ⌝ }
+    requires { ⌜ (n + mostRuleText ≤ places) × Sized (now table) × (k < rulesOf (now table)) ⌝ }
+    ensures { λ r. ⌜ Put (now (out .entry)) n (alone (ruleText (typesOf (now (table .entry))) (now (table .entry)) (ruleAt (now (table .entry)) k))) r (now (out .exit)) × (r ≤ n + mostRuleText) ⌝ }
 {
     let n = put_numbered(out, n, b"\ns", table::from(table, k));
     let n = put_numbered(out, n, b" -> s", table::to(table, k));
-    let at = table::rule_at(table, k) + 2;
-    put_label(out, n, table, at, 3 * table::types(table), true)
+    let at = table::rule_at(table, k) + table::END_BYTES;
+    put_label(
+        out,
+        n,
+        table,
+        at,
+        table::TYPE_BYTES * table::types(table),
+        true,
+    )
 }
 
 // A label of g numbers at n, which are the table's bytes from `at` on; and the place after it.
@@ -124,7 +138,7 @@ fn put_joint(out: &mut [u8], n: usize, j: usize) -> usize
     if j == 0 {
         return n;
     }
-    if j % 3 == 0 {
+    if j % table::TYPE_BYTES == 0 {
         return put_all(out, n, b", ");
     }
     put_all(out, n, b" ")

@@ -1,6 +1,11 @@
 // The report program: a bundle on standard input, what its run comes to on standard output (outline, "The echo table and one
 // bundle"). Its standing table is the echo table.
-ghost use Prim.Native.Nat.{_+_, _≤_, _<_};
+ghost use mathlib.Core.Path.{_≡_};
+ghost use Prim.Native.Nat.{_≤_, _<_};
+ghost use lib.ListN.{length};
+ghost use Rattle.words.specs.Words.{roomOf};
+ghost use Rattle.words.specs.Facts.{mostWords, Bounded, At};
+use words::Sizes;
 
 // A table of 16 states and 64 rules of 14 bytes, 64 starts, 4,096 steps and two trailers.
 const LARGEST: usize = 17392;
@@ -17,17 +22,31 @@ fn report(bundle: &[u8]) {
         return;
     }
     let standing = echo::table();
-    let mut words = [0u64; 580];
-    report_run(bundle, &standing, &mut words);
+    let mut ends = [0u8; rules::ROOM];
+    let mut leasts = [0u16; rules::ROOM];
+    let mut words = [0u64; words::MOST];
+    report_run(bundle, &standing, &mut ends, &mut leasts, &mut words);
 }
 
-// The first line; then, where steps were looked at, the configuration.
-fn report_run<'a>(bundle: &'a [u8], standing: &'a [u8], words: &mut [u64]) {
+// The first line; then, where steps were looked at, the configuration. There is room for any, so that what was read was run.
+fn report_run<'a>(
+    bundle: &'a [u8],
+    standing: &'a [u8],
+    ends: &mut [u8],
+    leasts: &mut [u16],
+    words: &mut [u64],
+)
+    requires { ⌜ (length (now ends) ≡ 256) × (length (now leasts) ≡ 256) × (mostWords ≤ length (now words)) ⌝ }
+{
     let a = engine::run(bundle, standing, words);
     print_result(a.refusal, a.place, a.count);
-    if (a.refusal == 0) | (20 <= a.refusal) {
-        print_configuration(bundle, bundle::table_in_use(bundle, standing), words);
+    let o = engine::open(bundle, standing, ends, leasts);
+    if o.number != 0 {
+        return;
     }
+    let s = o.sizes;
+    let need = words::room(s);
+    print_configuration(s, &words[..need]);
 }
 
 fn print_result(refusal: u64, place: u64, count: u64) {
@@ -38,102 +57,51 @@ fn print_result(refusal: u64, place: u64, count: u64) {
     end_line();
 }
 
-// The limits of a bundle that was read are tested again: a number past them would print a wrong line, and never does.
-fn print_configuration(bundle: &[u8], table: &[u8], words: &[u64]) {
-    if bundle.len() < 8 {
-        return;
-    }
-    if table.len() < 8 {
-        return;
-    }
-    let s = engine::sizes_of(table, bundle);
-    let correct = at_most(64, s.correct);
-    let faulty = at_most(64 - correct, s.faulty);
-    let types = at_most(4, s.types);
-    for p in 0..correct {
-        print_board(s.form, correct, faulty, types, words, p);
-    }
-    print_sent(s.form, correct, types, words);
-}
-
-fn at_most(limit: usize, x: usize) -> usize
-    ensures { λ r. ⌜ r ≤ limit ⌝ }
+// A line for each board, then one for what was sent.
+fn print_configuration(s: Sizes, w: &[u64])
+    requires { ⌜ (Bounded s) × (length (now w) ≡ roomOf s) ⌝ }
 {
-    if x < limit { x } else { limit }
+    let boards = s.correct;
+    for p in 0..boards {
+        print_board(s, w, p);
+    }
+    print_sent(s, w);
 }
 
 // Board, state, then the counts of each type.
-fn print_board(form: usize, correct: usize, faulty: usize, types: usize, words: &[u64], p: usize)
-    requires { ⌜ (faulty + correct ≤ 64) × (types ≤ 4) × (p < 64) ⌝ }
+fn print_board(s: Sizes, w: &[u64], p: usize)
+    requires { ⌜ (Bounded s) × (p < s .correct) × (length (now w) ≡ roomOf s) ⌝ }
 {
     io::write_all(1, b"p");
     print_next(p as u64);
-    print_next(word(words, p));
+    print_next(words::state_in(s, w, p));
+    let types = s.types;
     for m in 0..types {
-        print_cell(form, correct, faulty, words, fault::times(p, types) + m);
+        print_cell(s, w, p, m);
     }
     end_line();
 }
 
 // Correct and faulty count, or the one of a plain counter.
-fn print_cell(form: usize, correct: usize, faulty: usize, words: &[u64], cell: usize)
-    requires { ⌜ (faulty + correct ≤ 64) × (cell < 5000000000) ⌝ }
+fn print_cell(s: Sizes, w: &[u64], p: usize, m: usize)
+    requires { ⌜ (Bounded s) × (At s p m) × (length (now w) ≡ roomOf s) ⌝ }
 {
-    if form == 2 {
-        print_next(word(words, correct + cell));
-        return;
+    print_next(words::correct_in(s, w, p, m));
+    if s.level < 2 {
+        print_next(words::faulty_in(s, w, p, m));
     }
-    print_next(correct_count(form, correct, words, cell));
-    print_next(faulty_count(form, correct, faulty, words, cell));
 }
 
 // One count for each type.
-fn print_sent(form: usize, correct: usize, types: usize, words: &[u64])
-    requires { ⌜ (correct ≤ 64) × (types ≤ 4) ⌝ }
+fn print_sent(s: Sizes, w: &[u64])
+    requires { ⌜ (Bounded s) × (length (now w) ≡ roomOf s) ⌝ }
 {
     io::write_all(1, b"sent");
+    let types = s.types;
     for m in 0..types {
-        print_next(sent_count(form, correct, types, words, m));
+        print_next(words::sent_in(s, w, m));
     }
     end_line();
-}
-
-// How many boards have sent a type: of a set, or its word after cells of one word or two.
-fn sent_count(form: usize, correct: usize, types: usize, words: &[u64], m: usize) -> u64
-    requires { ⌜ (correct ≤ 64) × (types ≤ 4) × (m < 4) ⌝ }
-{
-    let cells = fault::times(correct, types);
-    if form == 0 {
-        return senders::correct_count(word(words, correct + cells + m), correct as u64);
-    }
-    if form == 2 {
-        return word(words, correct + cells + m);
-    }
-    word(words, correct + 2 * cells + m)
-}
-
-// How many correct senders a cell has: of a set, or its first word.
-fn correct_count(form: usize, correct: usize, words: &[u64], cell: usize) -> u64
-    requires { ⌜ (correct ≤ 64) × (cell < 5000000000) ⌝ }
-{
-    if form == 0 {
-        return senders::correct_count(word(words, correct + cell), correct as u64);
-    }
-    word(words, correct + 2 * cell)
-}
-
-// How many faulty ones: of a set, or its second word.
-fn faulty_count(form: usize, correct: usize, faulty: usize, words: &[u64], cell: usize) -> u64
-    requires { ⌜ (faulty + correct ≤ 64) × (cell < 5000000000) ⌝ }
-{
-    if form == 0 {
-        return senders::faulty_count(word(words, correct + cell), correct as u64, faulty as u64);
-    }
-    word(words, correct + 2 * cell + 1)
-}
-
-fn word(words: &[u64], i: usize) -> u64 {
-    if i < words.len() { words[i] } else { 0 }
 }
 
 fn print_next(number: u64) {

@@ -1,26 +1,23 @@
 -- The rules as a run keeps them: each store adds one, and keeps those before it.
-use mathlib.Core.Path.{_≡_, _∙_, subst⁻¹}
-use mathlib.Core.Bool.{not}
+use mathlib.Core.Path.{_≡_, refl, _∙_, subst⁻¹}
 use mathlib.Core.List.{List}
 use Prim.Native.Nat.{ℕ, _+_, _*_, _≤_, _<_}
 use native.Mathlib.Decide.{ℕ-discrete}
 use native.Mathlib.Omega.{arith}
-use lib.Dec.{ltb}
 use lib.ListN.{length, getD, set, length-set}
 use lib.Seq.{getD-set-same, getD-set-other}
-use Rattle.threshold.proofs.LeastLaws.{below-least}
-use Rattle.table.specs.Table.{fromOf, toOf, coefficientsAt}
+use Rattle.threshold.proofs.LeastLaws.{from-least}
+use Rattle.table.specs.Table.{fromOf, toOf}
 use Rattle.words.specs.declared.Sizes.{Sizes}
-use Rattle.rules.specs.Design.{thresholdAt, metAt, leastAt, sendsOf}
+use Rattle.fault.specs.Tests.{_atLeast_}
+use Rattle.rules.specs.Design.{thresholdFor, metAt, leastAt, sendsOf, designOf}
+use Rattle.rules.specs.Kept.{Kept}
 use Rattle.rules.specs.Facts.{Suits, EndsAt, EndsTo, LeastAt, LeastsTo}
 
-pub rule-few : (s : Sizes) (table : List ℕ) → Suits s table → s .rules ≤ 64
-rule-few s table S = omega (arith, S .rules, S .formed .sized .few-rules)
-
--- a count below the least one meets no threshold
-pub unmet-is : {x c k : ℕ} (table : List ℕ) (at n t : ℕ) → x ≡ leastAt table at n t → c ≡ k → ltb c x ≡ not (metAt table at n t k)
+-- a threshold is met by the counts from the least one on
+met-is : {x : ℕ} (table : List ℕ) (r m n t c : ℕ) → x ≡ leastAt table r m n t → metAt table r m n t c ≡ (c atLeast x)
 unfolding metAt
-unmet-is {x} {c} {k} table at n t e f = rw (e, f) (below-least k (thresholdAt table at n t))
+met-is table r m n t c e = rw e (from-least c (thresholdFor table r m n t))
 
 module _ (s : Sizes) (table : List ℕ) where
   -- ---- the ends
@@ -68,31 +65,46 @@ module _ (s : Sizes) (table : List ℕ) where
             let A = E .at r (omega arith) in
             record { from = before (r * 4) (omega arith) ∙ A .from; to = before (r * 4 + 1) (omega arith) ∙ A .to; sends = before (r * 4 + 2) (omega arith) ∙ A .sends }
 
-  -- ---- the least counts
-  pub leasts-none : (u : List ℕ) → length u ≡ 256 → LeastsTo s table u 0 0
+-- ---- the least counts
+module _ (s : Sizes) (t : ℕ) (table : List ℕ) where
+  pub leasts-none : (u : List ℕ) → length u ≡ 256 → LeastsTo s t table u 0 0
   leasts-none u l = record { long = l; at = λ r m h. absurd (omega arith); last = λ m h. absurd (omega arith) }
 
-  pub leasts-all : (u : List ℕ) (k n : ℕ) → k ≤ n → n ≤ k → LeastsTo s table u k 0 → LeastsTo s table u n 0
+  pub leasts-all : (u : List ℕ) (k n : ℕ) → k ≤ n → n ≤ k → LeastsTo s t table u k 0 → LeastsTo s t table u n 0
   leasts-all u k n a b L = let e : n ≡ k = omega arith in rw e L
 
-  pub leasts-whole : (u : List ℕ) (k j n : ℕ) → j ≤ n → n ≤ j → LeastsTo s table u k j → LeastsTo s table u k n
+  pub leasts-whole : (u : List ℕ) (k j n : ℕ) → j ≤ n → n ≤ j → LeastsTo s t table u k j → LeastsTo s t table u k n
   leasts-whole u k j n a b L = let e : n ≡ j = omega arith in rw e L
 
-  pub leasts-next : (u : List ℕ) (k : ℕ) → LeastsTo s table u k (s .types) → LeastsTo s table u (k + 1) 0
+  pub leasts-next : (u : List ℕ) (k : ℕ) → LeastsTo s t table u k (s .types) → LeastsTo s t table u (k + 1) 0
   leasts-next u k L = record { long = L .long; at = λ r m h l. go r m h l (ℕ-discrete r k); last = λ m h. absurd (omega arith) }
     where
-      go : (r m : ℕ) → r < k + 1 → m < s .types → Dec (r ≡ k) → LeastAt s table u r m
-      go r m h l (yes z) = subst⁻¹ (λ (x : ℕ). LeastAt s table u x m) z (L .last m l)
+      go : (r m : ℕ) → r < k + 1 → m < s .types → Dec (r ≡ k) → LeastAt s t table u r m
+      go r m h l (yes z) = subst⁻¹ (λ (x : ℕ). LeastAt s t table u x m) z (L .last m l)
       go r m h l (no z) = L .at r m (omega arith) l
 
-  pub leasts-more : {x : ℕ} (u : List ℕ) (k j : ℕ) → k < 64 → s .types ≤ 4 → j < s .types → LeastsTo s table u k j
-      → x ≡ leastAt table (coefficientsAt table k j) (s .correct + s .faulty) (s .t) → LeastsTo s table (set u (k * 4 + j) x) k (j + 1)
-  leasts-more {x} u k j h t l L e = record {
+  pub leasts-more : {x : ℕ} (u : List ℕ) (k j : ℕ) → k < 64 → s .types ≤ 4 → j < s .types → LeastsTo s t table u k j
+      → x ≡ leastAt table k j (s .correct + s .faulty) t → LeastsTo s t table (set u (k * 4 + j) x) k (j + 1)
+  leasts-more {x} u k j h few l L e = record {
     long = length-set u (k * 4 + j) x ∙ L .long;
     at = λ r m a b. getD-set-other u (k * 4 + j) (r * 4 + m) x 0 (λ z. omega arith) ∙ L .at r m a b;
     last = λ m a. go m a (ℕ-discrete m j);
   }
     where
-      go : (m : ℕ) → m < j + 1 → Dec (m ≡ j) → LeastAt s table (set u (k * 4 + j) x) k m
-      go m a (yes z) = subst⁻¹ (λ (y : ℕ). LeastAt s table (set u (k * 4 + j) x) k y) z (getD-set-same u (k * 4 + j) x 0 (omega (arith, L .long)) ∙ e)
+      go : (m : ℕ) → m < j + 1 → Dec (m ≡ j) → LeastAt s t table (set u (k * 4 + j) x) k m
+      go m a (yes z) = subst⁻¹ (λ (y : ℕ). LeastAt s t table (set u (k * 4 + j) x) k y) z (getD-set-same u (k * 4 + j) x 0 (omega (arith, L .long)) ∙ e)
       go m a (no z) = getD-set-other u (k * 4 + j) (k * 4 + m) x 0 (λ y. omega arith) ∙ L .last m (omega arith)
+
+-- ---- all of them stand for the table's design
+pub kept-by : (s : Sizes) (t : ℕ) (table e l : List ℕ) → Suits s table → EndsTo (s .types) table e (s .rules) → LeastsTo s t table l (s .rules) 0 → Kept (designOf s t table) s e l
+kept-by s t table e l S E L = record {
+  ends = record {
+    long = E .long;
+    numbers = record { boards = refl; faulty = refl; types = refl; rules = refl };
+    from = λ r h. E .at r h .from;
+    to = λ r h. E .at r h .to;
+    sends = λ r h. E .at r h .sends;
+    one-new = λ r h. rw (S .types) (S .formed .rule r (rw (← S .rules) h) .one-new);
+  };
+  leasts = record { long = L .long; met = λ r m c h k. met-is table r m (s .correct + s .faulty) t c (L .at r m h k) };
+}

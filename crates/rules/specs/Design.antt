@@ -5,31 +5,30 @@ use Prim.Native.Nat.{ℕ, _+_}
 use lib.IntN.{ℤ}
 use Rattle.senders.specs.Tally.{least}
 use Rattle.senders.specs.Set.{mem, missing}
-use Rattle.threshold.specs.Threshold.{thresholdOf, metBy, leastOf}
-use Rattle.fault.specs.Bytes.{byteAt}
+use Rattle.threshold.specs.Threshold.{thresholdIn, metBy, leastOf}
 use Rattle.table.specs.Table as table
-use Rattle.table.specs.Table.{initialOf, fromOf, toOf, coefficientsAt}
+use Rattle.table.specs.Table.{initialOf, fromOf, toOf, ruleOf, coefficientsOf}
 use Rattle.paper.specs.Paper.{Design}
 use Rattle.words.specs.declared.Sizes.{Sizes}
 
--- a·n + b·t + d, whose three bytes stand at `at`
-abbrev pub thresholdAt : List ℕ → ℕ → ℕ → ℕ → ℤ
-thresholdAt table at n t = thresholdOf (byteAt table at) (byteAt table (at + 1)) (byteAt table (at + 2)) n t
+-- the threshold of rule r for type m
+abbrev pub thresholdFor : List ℕ → ℕ → ℕ → ℕ → ℕ → ℤ
+thresholdFor table r m n t = thresholdIn (coefficientsOf (ruleOf table r) m) n t
 
-unfoldable pub metAt : List ℕ → ℕ → ℕ → ℕ → ℕ → Bool
-metAt table at n t count = metBy count (thresholdAt table at n t)
+unfoldable pub metAt : List ℕ → ℕ → ℕ → ℕ → ℕ → ℕ → Bool
+metAt table r m n t count = metBy count (thresholdFor table r m n t)
 
 -- the least count that meets it
-abbrev pub leastAt : List ℕ → ℕ → ℕ → ℕ → ℕ
-leastAt table at n t = leastOf (thresholdAt table at n t)
+abbrev pub leastAt : List ℕ → ℕ → ℕ → ℕ → ℕ → ℕ
+leastAt table r m n t = leastOf (thresholdFor table r m n t)
 
 -- the type that rule r sends: the lowest that its end has sent and its start has not; T where there is none
 abbrev pub sendsOf : ℕ → List ℕ → ℕ → ℕ
 sendsOf T tab r = least T (missing (table.sentOf tab (toOf tab r)) (table.sentOf tab (fromOf tab r)))
 
 -- the design: n is the correct boards and the faulty ones
-abbrev pub designOf : Sizes → List ℕ → Design
-designOf s tab = record {
+abbrev pub designOf : Sizes → ℕ → List ℕ → Design
+designOf s t tab = record {
   boards = s .correct;
   faulty = s .faulty;
   types = s .types;
@@ -38,5 +37,5 @@ designOf s tab = record {
   hasSent = λ i m. mem (table.sentOf tab i) m;
   from = fromOf tab;
   to = toOf tab;
-  met = λ r m c. metAt tab (coefficientsAt tab r m) (s .correct + s .faulty) (s .t) c;
+  met = λ r m c. metAt tab r m (s .correct + s .faulty) t c;
 }

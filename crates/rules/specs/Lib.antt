@@ -1,2 +1,3 @@
 pub mod Design
+pub mod Kept
 pub mod Facts

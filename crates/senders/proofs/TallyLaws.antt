@@ -102,21 +102,21 @@ count-only k P m c hm t j hj o = go (P j) refl
         absurd (omega (arith, count-two k P m j hm hj o t e))
 
 -- fewer pass P than Q: one passes Q and not P
-pub record Gap (k : ℕ) (P Q : ℕ → Bool) : Type 0 where
+pub record Lacking (k : ℕ) (P Q : ℕ → Bool) : Type 0 where
   pub at : ℕ
   pub below : at < k
   pub has : Q at ≡ true
   pub lacks : P at ≡ false
 
-gap-up : (k : ℕ) (P Q : ℕ → Bool) → Gap k P Q → Gap (suc k) P Q
+gap-up : (k : ℕ) (P Q : ℕ → Bool) → Lacking k P Q → Lacking (suc k) P Q
 gap-up k P Q g = record { at = g .at; below = omega arith; has = g .has; lacks = g .lacks }
 
-pub count-gap : (k : ℕ) (P Q : ℕ → Bool) → count k P < count k Q → Gap k P Q
+pub count-gap : (k : ℕ) (P Q : ℕ → Bool) → count k P < count k Q → Lacking k P Q
 unfolding count
 count-gap zero P Q h = absurd (not-suc-le-zero h)
 count-gap (suc k) P Q h = go (P k) (Q k) refl refl (λ l. gap-up k P Q (count-gap k P Q l))
   where
-    go : (a b : Bool) → P k ≡ a → Q k ≡ b → (count k P < count k Q → Gap (suc k) P Q) → Gap (suc k) P Q
+    go : (a b : Bool) → P k ≡ a → Q k ≡ b → (count k P < count k Q → Lacking (suc k) P Q) → Lacking (suc k) P Q
     go false true p t ih = record { at = k; below = le-refl (suc k); has = t; lacks = p }
     go true true p t ih = ih (omega (arith, rw (p, t) at h))
     go true false p t ih = ih (omega (arith, rw (p, t) at h))

@@ -6,6 +6,13 @@ use lib.Dec.{eqb}
 use lib.Bits.{bitOr}
 use Rattle.senders.specs.Tally.{count}
 
+-- the most boards, since a set has a bit for each; and the most that may be faulty, which leaves one
+abbrev pub mostBoards : ℕ
+mostBoards = 64
+
+abbrev pub mostTolerated : ℕ
+mostTolerated = 63
+
 -- q is in the set
 unfoldable pub mem : ℕ → ℕ → Bool
 mem set q = eqb (set / 2 ^ q % 2) 1

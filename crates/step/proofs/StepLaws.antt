@@ -1,188 +1,161 @@
--- The paper's step, told by the numbers that the code has in hand.
+-- A step's checks in order, from what the code has in hand: each answer is the first of the outline's refusals, by the kept rules.
 use mathlib.Core.Path.{_≡_, refl, sym, ap, _∙_}
 use mathlib.Core.Bool.{Bool, true, false, not, _&&_, _||_}
-use mathlib.Core.List.{List}
-use Prim.Native.Nat.{ℕ, _+_, _*_, _≤_, _<_}
+use mathlib.Core.List.{List, []}
+use Prim.Native.Nat.{ℕ, _+_, _≤_, _<_}
+use native.Mathlib.Decide.{decLt}
 use native.Mathlib.Omega.{arith}
-use lib.Dec.{eqb}
-use lib.ListN.{length, set}
-use borrow.Author.Tests.{leb-false, lt-leb, eqb-true, eq-eqb, ne-eqb}
-use Rattle.senders.specs.Tally.{count, every, digit, least}
-use Rattle.senders.specs.Set.{missing}
-use Rattle.senders.proofs.TallyLaws.{and-both, every-same, least-first, least-found, count-only}
+use lib.Dec.{eqb, ltb, leb}
+use lib.ListN.{length}
+use borrow.Author.Tests.{leb-false, lt-ltb, le-ltb, le-leb, lt-leb, eqb-true, eq-eqb, ne-eqb}
+use Rattle.senders.specs.Tally.{digit}
+use Rattle.senders.proofs.TallyLaws.{and-both, every-same}
 use Rattle.fault.specs.Tests.{_atLeast_, _differs_}
 use Rattle.fault.specs.Fault.{_if_else_}
 use Rattle.fault.proofs.FaultLaws.{if-yes, if-no}
-use Rattle.fault.proofs.TestLaws.{or-none, same}
-use Rattle.table.specs.Table as tables
-use Rattle.table.specs.Table.{statesOf, rulesOf, fromOf, toOf, ruleAt, coefficientsAt}
-use Rattle.paper.specs.Paper.{Design, Step}
-use Rattle.paper.specs.Words.{size, state, sent, sentAt, tell}
+use Rattle.fault.proofs.TestLaws.{same}
+use Rattle.paper.specs.Paper.{Design, Step, silent}
+use Rattle.paper.specs.Words.{size, state}
 use Rattle.paper.specs.Step.{malformed, notInTransit, notMet, stepFault}
-use Rattle.paper.proofs.WordLaws.{tell-none, tell-one}
-use Rattle.paper.proofs.StepLaws.{Arrives, Accepted, accepted, named-of, transit-of, count-heard}
+use Rattle.paper.proofs.StepLaws.{Arrives, Named, accepted, malformed-if, transit-if, named-of, transit-of, count-heard}
 use Rattle.words.specs.declared.Sizes.{Sizes}
-use Rattle.rules.specs.Design.{metAt, designOf}
-use Rattle.step.specs.Step.{stepOf, silentBytes, malformedIn, Leaves}
-use Rattle.words.specs.Words.{roomOf, columnIn, countIn, transitIn}
-use Rattle.rules.specs.Facts.{Suits}
-use Rattle.words.specs.Facts.{At, Source}
+use Rattle.words.specs.Words.{roomOf, columnIn, countIn}
+use Rattle.words.specs.Facts.{At, Sourced}
+use Rattle.rules.specs.Kept.{keptFrom, keptLeast, keptDesign, Numbers}
+use Rattle.step.proofs.KeptLaws.{numbered, numbered-is, malformed-sized, transit-sized}
+use Rattle.step.specs.Step.{sized, metWith, keptFault, Formed, Leaves}
 
 -- ---- the message that a step names
-module _ {b : Bool} (s : Sizes) (p m q : ℕ) (h : malformedIn s m q ≡ false) (e : b ≡ silentBytes m q) (f : b ≡ false) where
-  ranges : (m < s .types) × (q < columnIn s .sources)
-  ranges =
-      let z : silentBytes m q ≡ false = sym e ∙ f in
-      let y : (m atLeast s .types || q atLeast columnIn s .sources) ≡ false = rw z at h in
-      let r = or-none (m atLeast s .types) _ y in
-      (leb-false _ _ (r .0), leb-false _ _ (r .1))
+module _ {b : Bool} (s : Sizes) (x : Step) (F : Formed s x) (e : b ≡ silent x) (f : b ≡ false) where
+  named : Named (s .level) (sized s) x
+  named = named-of (s .level) (sized s) [] x (F .named) (sym e ∙ f)
 
-  pub names-type : p < s .correct → At s p m
-  names-type l = record { board = l; type = ranges .0 }
+  pub names-type : At s (x .board) (x .type)
+  names-type = record { board = F .board; type = named .type }
 
-  pub names-source : Source s q
-  names-source = record { below = ranges .1 }
+  pub names-source : Sourced s (x .source)
+  names-source = record { below = named .source }
 
--- ---- a send: at most one type is new
-module _ (C T k : ℕ) (P : ℕ → Bool) (g : ℕ → ℕ) (v : List ℕ) {m : ℕ} (e : m ≡ least T P) where
-  pub send-one : count T P ≤ 1 → m < T → set v (sentAt C T k m) (g (sent C T k v m)) ≡ tell C T k P g T v
-  send-one c h =
-      let t : P m ≡ true = ap P e ∙ least-found T P (rw e at h) in
-      sym (tell-one C T k P g T m v h t (count-only T P m c h t))
-
-  pub send-none : T ≤ m → v ≡ tell C T k P g T v
-  send-none h = sym (tell-none C T k P g T v (λ j l. least-first T P j (omega arith)))
-
--- ---- what a step that is not refused gives
-pub record Granted (s : Sizes) (tab w : List ℕ) (p r m q : ℕ) : Type 0 where
-  pub board : p < s .correct
-  pub rule : r < rulesOf tab
-  pub well-named : malformedIn s m q ≡ false
-  pub from : fromOf tab r < statesOf tab
-  pub to : toOf tab r < statesOf tab
-  pub one-new : count (s .types) (missing (tables.sentOf tab (toOf tab r)) (tables.sentOf tab (fromOf tab r))) ≤ 1
-
-zero-malformed : (s : Sizes) (tab w : List ℕ) (p r m q : ℕ) → Accepted (s .form) (designOf s tab) w (stepOf p r m q) → malformedIn s m q ≡ false
-zero-malformed s tab w p r m q A = go (silentBytes m q) refl
+-- a step that a design of these numbers accepts
+pub formed-by : (d : Design) (s : Sizes) → Numbers d s → (w : List ℕ) (x : Step) → stepFault (s .level) d w x ≡ 0 → Formed s x
+formed-by d s N w x z = go (accepted (s .level) (numbered s d) w x (sym (ap (λ (D : Design). stepFault (s .level) D w x) (numbered-is d s N)) ∙ z) .arrives)
   where
-    go : (b : Bool) → silentBytes m q ≡ b → (not b && (m atLeast s .types || q atLeast columnIn s .sources)) ≡ false
-    go true e = refl
-    go false e = let N = A .arrives .named e in rw (lt-leb _ _ (N .type), lt-leb _ _ (N .source))
+    ranged : (b : Bool) → silent x ≡ b → Arrives (s .level) (numbered s d) w x → (not b && (x .type atLeast s .types || x .source atLeast columnIn s .sources)) ≡ false
+    ranged true e A = refl
+    ranged false e A = let M = A .named e in rw (lt-leb _ _ (M .type), lt-leb _ _ (M .source))
 
-pub granted : (s : Sizes) (tab w : List ℕ) (p r m q : ℕ) → Suits s tab → stepFault (s .form) (designOf s tab) w (stepOf p r m q) ≡ 0 → Granted s tab w p r m q
-granted s tab w p r m q S h =
-    let A = accepted (s .form) (designOf s tab) w (stepOf p r m q) h in
-    let R : r < rulesOf tab = rw (S .rules) at (A .arrives .rule) in
-    let F = S .formed .rule r R in
-    record {
-      board = A .arrives .board;
-      rule = R;
-      well-named = zero-malformed s tab w p r m q A;
-      from = F .ends .from;
-      to = F .ends .to;
-      one-new = rw (S .types) (F .one-new);
-    }
+    go : Arrives (s .level) (numbered s d) w x → Formed s x
+    go A = record { board = A .board; rule = A .rule; named = malformed-if (s .level) (sized s) w x ∙ ranged (silent x) refl A }
 
--- ---- the checks, from what the code has in hand
-pub below : {b : Bool} (x limit : ℕ) → b ≡ (x atLeast limit) → b ≡ false → x < limit
-below x limit e f = leb-false limit x (sym e ∙ f)
+-- ---- the first checks
+pub below : {b : Bool} (y limit : ℕ) → b ≡ (y atLeast limit) → b ≡ false → y < limit
+below y limit e f = leb-false limit y (sym e ∙ f)
 
 pub board-in-room : (s : Sizes) (p : ℕ) → p < s .correct → p < roomOf s
 unfolding size
 board-in-room s p h = omega arith
 
-pub leaves-by : {a b e : Bool} (s : Sizes) (tab w : List ℕ) (p r : ℕ) → a ≡ (p atLeast s .correct) → a ≡ false → b ≡ (r atLeast s .rules) → b ≡ false
-    → e ≡ (state w p differs fromOf tab r) → e ≡ false → Leaves s tab w p r
-leaves-by s tab w p r a a′ b b′ e e′ = record { board = below p (s .correct) a a′; rule = below r (s .rules) b b′; from = same _ _ (sym e ∙ e′) }
-
-module _ {a : Bool} (s : Sizes) (tab w : List ℕ) (p r m q : ℕ) (e : a ≡ (p atLeast s .correct)) where
-  pub fault-board : a ≡ true → 20 ≡ stepFault (s .form) (designOf s tab) w (stepOf p r m q)
+module _ {a : Bool} (s : Sizes) (ends leasts w : List ℕ) (x : Step) (e : a ≡ (x .board atLeast s .correct)) where
+  pub fault-board : a ≡ true → 20 ≡ keptFault s ends leasts w x
   unfolding stepFault
   fault-board f = if-yes _ refl e f
 
-  module _ {b : Bool} (f : a ≡ false) (g : b ≡ (r atLeast s .rules)) where
-    pub fault-rule : b ≡ true → 21 ≡ stepFault (s .form) (designOf s tab) w (stepOf p r m q)
+  module _ {b : Bool} (f : a ≡ false) (g : b ≡ (x .rule atLeast s .rules)) where
+    pub fault-rule : b ≡ true → 21 ≡ keptFault s ends leasts w x
     unfolding stepFault
     fault-rule h = if-no 20 e f (if-yes _ refl g h)
 
-    pub fault-state : {c : Bool} → b ≡ false → c ≡ (state w p differs fromOf tab r) → c ≡ true → 22 ≡ stepFault (s .form) (designOf s tab) w (stepOf p r m q)
-    unfolding stepFault
-    fault-state h i j = if-no 20 e f (if-no 21 g h (if-yes _ refl i j))
+    module _ {c : Bool} (h : b ≡ false) (i : c ≡ (state w (x .board) differs keptFrom ends (x .rule))) where
+      pub fault-state : c ≡ true → 22 ≡ keptFault s ends leasts w x
+      unfolding stepFault
+      fault-state j = if-no 20 e f (if-no 21 g h (if-yes _ refl i j))
+
+      pub leaves-by : c ≡ false → Leaves s ends w x
+      leaves-by j = record { board = below (x .board) (s .correct) e f; rule = below (x .rule) (s .rules) g h; from = same _ _ (sym i ∙ j) }
+
+-- a count below the least one is not at least that
+pub below-not : {c x y z : ℕ} → c ≡ y → x ≡ z → ltb c x ≡ not (y atLeast z)
+below-not {c} {x} {y} {z} e f = rw (e, f) (go (decLt y z))
+  where
+    go : Dec (y < z) → ltb y z ≡ not (leb z y)
+    go (yes h) = rw (lt-ltb y z h, lt-leb z y h)
+    go (no h) = rw (le-ltb y z (omega arith), le-leb z y (omega arith))
 
 -- ---- the thresholds: the counts after the receipt, from those before it
-module _ (s : Sizes) (tab w : List ℕ) (p r m q : ℕ) (S : Suits s tab) (l : length w ≡ roomOf s) (A : Arrives (s .form) (designOf s tab) w (stepOf p r m q)) where
-  silent-type : (i : ℕ) → i < s .types → digit (not (silentBytes m q) && eqb m i) ≡ digit (eqb m i)
-  silent-type i h = go (silentBytes m q) refl
+module _ (s : Sizes) (ends leasts w : List ℕ) (x : Step) (few : s .types ≤ 4) (l : length w ≡ roomOf s) (A : Arrives (s .level) (keptDesign s ends leasts) w x) where
+  silent-type : (i : ℕ) → i < s .types → digit (not (silent x) && eqb (x .type) i) ≡ digit (eqb (x .type) i)
+  silent-type i h = go (silent x) refl
     where
-      go : (b : Bool) → silentBytes m q ≡ b → digit (not b && eqb m i) ≡ digit (eqb m i)
+      go : (b : Bool) → silent x ≡ b → digit (not b && eqb (x .type) i) ≡ digit (eqb (x .type) i)
       go true e =
-          let z = eqb-true m 255 (and-both (eqb m 255) (eqb q 255) e .0) in
-          let o : m ≡ i → ⊥ = omega (arith, S .bounded .types) in
-          rw (ne-eqb m i o)
+          let z = eqb-true (x .type) 255 (and-both (eqb (x .type) 255) (eqb (x .source) 255) e .0) in
+          let o : x .type ≡ i → ⊥ = omega arith in
+          rw (ne-eqb (x .type) i o)
       go false e = refl
 
-  pub not-met-is : notMet (s .form) (designOf s tab) w (stepOf p r m q)
-      ≡ not (every (s .types) (λ i. metAt tab (ruleAt tab r + 2 + 3 * i) (s .correct + s .faulty) (s .t) (countIn s w p i + digit (eqb m i))))
+  pub not-met-is : notMet (s .level) (keptDesign s ends leasts) w x ≡ not (metWith s leasts w (x .board) (x .rule) (x .type))
   unfolding notMet
   not-met-is = ap not (every-same (s .types) _ _ (λ i h.
-      ap (metAt tab (ruleAt tab r + 2 + 3 * i) (s .correct + s .faulty) (s .t))
-      (count-heard (s .form) (designOf s tab) w (stepOf p r m q) l A i h ∙ ap (λ (x : ℕ). countIn s w p i + x) (silent-type i h))))
+      ap (λ (n : ℕ). n atLeast keptLeast leasts (x .rule) i)
+      (count-heard (s .level) (keptDesign s ends leasts) w x l A i h ∙ ap (λ (y : ℕ). countIn s w (x .board) i + y) (silent-type i h))))
 
 -- ---- a step past its first checks
-module _ (s : Sizes) (tab w : List ℕ) (p r m q : ℕ) (S : Suits s tab) (l : length w ≡ roomOf s) (L : Leaves s tab w p r) where
+module _ (s : Sizes) (ends leasts w : List ℕ) (x : Step) (few : s .types ≤ 4) (l : length w ≡ roomOf s) (L : Leaves s ends w x) where
   abbrev d : Design
-  d = designOf s tab
+  d = keptDesign s ends leasts
 
-  abbrev x : Step
-  x = stepOf p r m q
-
-  past : {k : ℕ} → k ≡ (23 if malformed (s .form) d x else 24 if notInTransit (s .form) d w x else 25 if notMet (s .form) d w x else 0) → k ≡ stepFault (s .form) d w x
+  past : {k : ℕ} → k ≡ (23 if malformed (s .level) d x else 24 if notInTransit (s .level) d w x else 25 if notMet (s .level) d w x else 0) → k ≡ keptFault s ends leasts w x
   unfolding stepFault
   past e = if-no 20 refl (lt-leb _ _ (L .board)) (if-no 21 refl (lt-leb _ _ (L .rule)) (if-no 22 refl (ap not (eq-eqb _ _ (L .from))) e))
 
-  pub fault-malformed : {a : Bool} → a ≡ malformedIn s m q → a ≡ true → 23 ≡ stepFault (s .form) d w x
-  unfolding malformed
-  fault-malformed e f = past (if-yes _ refl e f)
+  -- only the numbers are asked for 23 and 24
+  mal : malformed (s .level) (sized s) x ≡ malformed (s .level) d x
+  mal = sym (malformed-sized s d w x)
 
-  module _ {a : Bool} (e : a ≡ malformedIn s m q) (f : a ≡ false) where
-    pub fault-away : {b : Bool} → b ≡ (not (silentBytes m q) && not (transitIn s w p m q)) → b ≡ true → 24 ≡ stepFault (s .form) d w x
-    unfolding malformed notInTransit
-    fault-away g h = past (if-no 23 e f (if-yes _ refl g h))
+  away : notInTransit (s .level) (sized s) w x ≡ notInTransit (s .level) d w x
+  away = sym (transit-sized s d w x)
 
-    module _ {b : Bool} (g : b ≡ (not (silentBytes m q) && not (transitIn s w p m q))) (h : b ≡ false) where
-      arrives : Arrives (s .form) d w x
-      unfolding malformed notInTransit
+  pub fault-malformed : {a : Bool} → a ≡ malformed (s .level) (sized s) x → a ≡ true → 23 ≡ keptFault s ends leasts w x
+  fault-malformed e f = past (if-yes _ refl (e ∙ mal) f)
+
+  module _ {a : Bool} (e : a ≡ malformed (s .level) (sized s) x) (f : a ≡ false) where
+    pub formed : Formed s x
+    formed = record { board = L .board; rule = L .rule; named = sym e ∙ f }
+
+    pub fault-away : {b : Bool} → b ≡ notInTransit (s .level) (sized s) w x → b ≡ true → 24 ≡ keptFault s ends leasts w x
+    fault-away g h = past (if-no 23 (e ∙ mal) f (if-yes _ refl (g ∙ away) h))
+
+    module _ {b : Bool} (g : b ≡ notInTransit (s .level) (sized s) w x) (h : b ≡ false) where
+      arrives : Arrives (s .level) d w x
       arrives = record {
         board = L .board;
         rule = L .rule;
         leaves = L .from;
-        named = named-of (s .form) d w x (sym e ∙ f);
-        transit = transit-of (s .form) d w x (sym g ∙ h);
+        named = named-of (s .level) d w x (sym (e ∙ mal) ∙ f);
+        transit = transit-of (s .level) d w x (sym (g ∙ away) ∙ h);
       }
 
-      module _ {c : Bool} (i : c ≡ not (every (s .types) (λ i. metAt tab (coefficientsAt tab r i) (s .correct + s .faulty) (s .t) (countIn s w p i + digit (eqb m i))))) where
-        met : c ≡ notMet (s .form) d w x
-        met = i ∙ sym (not-met-is s tab w p r m q S l arrives)
+      module _ {c : Bool} (i : c ≡ not (metWith s leasts w (x .board) (x .rule) (x .type))) where
+        met : c ≡ notMet (s .level) d w x
+        met = i ∙ sym (not-met-is s ends leasts w x few l arrives)
 
-        pub fault-unmet : c ≡ true → 25 ≡ stepFault (s .form) d w x
-        unfolding malformed notInTransit
-        fault-unmet j = past (if-no 23 e f (if-no 24 g h (if-yes _ refl met j)))
+        pub fault-unmet : c ≡ true → 25 ≡ keptFault s ends leasts w x
+        fault-unmet j = past (if-no 23 (e ∙ mal) f (if-no 24 (g ∙ away) h (if-yes _ refl met j)))
 
-        pub fault-none : c ≡ false → 0 ≡ stepFault (s .form) d w x
-        unfolding malformed notInTransit
-        fault-none j = past (if-no 23 e f (if-no 24 g h (if-no 25 met j refl)))
+        pub fault-none : c ≡ false → 0 ≡ keptFault s ends leasts w x
+        fault-none j = past (if-no 23 (e ∙ mal) f (if-no 24 (g ∙ away) h (if-no 25 met j refl)))
 
 -- no message is neither malformed nor away
-module _ (s : Sizes) (w : List ℕ) (p m q : ℕ) (z : silentBytes m q ≡ true) where
-  pub silent-formed : false ≡ malformedIn s m q
-  silent-formed = rw z
+module _ (s : Sizes) (w : List ℕ) (x : Step) (z : silent x ≡ true) where
+  pub silent-formed : false ≡ malformed (s .level) (sized s) x
+  silent-formed = sym (malformed-if (s .level) (sized s) w x ∙ rw z)
 
-  pub silent-there : false ≡ (not (silentBytes m q) && not (transitIn s w p m q))
-  silent-there = rw z
+  pub silent-there : false ≡ notInTransit (s .level) (sized s) w x
+  silent-there = sym (transit-if (s .level) (sized s) w x ∙ rw z)
 
--- ---- `step`, from what it has in hand
-pub step-left : {x y : ℕ} (u w : List ℕ) → x ≡ y → (x ≡ 0 → ⊥) → w ≡ (u if eqb y 0 else w)
+-- ---- what a step that is accepted or refused leaves
+pub step-left : {y z : ℕ} (u w : List ℕ) → y ≡ z → (y ≡ 0 → ⊥) → w ≡ (u if eqb z 0 else w)
 step-left u w e n = if-no u refl (ne-eqb _ 0 (λ z. n (e ∙ z))) refl
 
-pub step-done : {x y : ℕ} {v u : List ℕ} (w : List ℕ) → x ≡ y → x ≡ 0 → v ≡ u → v ≡ (u if eqb y 0 else w)
+pub step-done : {y z : ℕ} {v u : List ℕ} (w : List ℕ) → y ≡ z → y ≡ 0 → v ≡ u → v ≡ (u if eqb z 0 else w)
 step-done w e z h = if-yes w h refl (eq-eqb _ 0 (sym e ∙ z))

@@ -1,106 +1,83 @@
 // One step: its refusal, which changes nothing, and its change of at most three words.
 ghost use mathlib.Core.Path.{_≡_};
-ghost use mathlib.Core.Bool.{true, false, not, _&&_};
+ghost use mathlib.Core.Bool.{true, false, not};
 ghost use Prim.Native.Nat.{_+_, _≤_, _<_};
 ghost use lib.Dec.{eqb};
-ghost use lib.ListN.{length, set};
-ghost use Rattle.senders.specs.Tally.{every, digit};
-ghost use Rattle.senders.specs.Set.{missing};
+ghost use lib.ListN.{length};
+ghost use Rattle.senders.specs.Tally.{digit};
 ghost use Rattle.fault.specs.Tests.{_atLeast_, _differs_};
-ghost use Rattle.fault.specs.Fault.{_if_else_};
-ghost use Rattle.table.specs.Table as tables;
-ghost use Rattle.table.specs.Table.{fromOf, toOf, coefficientsAt};
-ghost use Rattle.paper.specs.Words as words;
-ghost use Rattle.paper.specs.Form as forms;
-ghost use Rattle.paper.specs.Step.{stepFault, stepped};
-ghost use Rattle.rules.specs.Design.{metAt, designOf};
-ghost use Rattle.step.specs.Step.{stepOf, silentBytes, malformedIn, Leaves};
-ghost use Rattle.words.specs.Words.{columnIn, countIn, transitIn};
-ghost use Rattle.words.specs.Facts.{Bounded, Holds};
-ghost use Rattle.rules.specs.Facts.{Suits, EndsTo, LeastsTo, Kept};
+ghost use Rattle.paper.specs.Paper as paper;
+ghost use Rattle.paper.specs.Words.{state};
+ghost use Rattle.paper.specs.Step.{notInTransit, stepFault, stepped};
+ghost use Rattle.paper.specs.Step as steps;
+ghost use Rattle.schedule.specs.Records.{meant};
+ghost use Rattle.words.specs.Facts.{atRest, inStep, Bounded, Holds, Grown};
+ghost use Rattle.rules.specs.Kept.{keptFrom, ByEnds, ByDesign};
+ghost use Rattle.step.specs.Step.{leftBy, sized, metWith, movedBy, keptStepped, keptFault, keptLeft, Formed, Leaves};
+use schedule::Step;
 use words::Sizes;
 
-// The step if it is accepted, and 0; or its refusal, and no change. A step without a message goes its own way after the checks
-// that both have, so that neither asks again whether there is one.
-pub fn step(
-    table: &[u8],
-    s: Sizes,
-    ends: &[u8],
-    leasts: &[u16],
-    w: &mut [u64],
-    p: usize,
-    r: usize,
-    m: usize,
-    q: usize,
-) -> usize
-    requires { ⌜ (Suits s (now table)) × (Kept s (now table) (now ends) (now leasts)) × (Holds s 900000 (now w)) ⌝ }
-    ensures { λ x. ⌜ x ≡ stepFault (s .form) (designOf s (now (table .entry))) (now (w .entry)) (stepOf p r m q) ⌝ }
-    ensures { λ x. ⌜ now (w .exit) ≡ (stepped (s .form) (designOf s (now (table .entry))) (now (w .entry)) (stepOf p r m q) if eqb (stepFault (s .form) (designOf s (now (table .entry))) (now (w .entry)) (stepOf p r m q)) 0 else now (w .entry)) ⌝ }
+// The step if it is accepted, and 0; or its refusal, and no change: for every design that the kept rules stand for.
+pub fn step(s: Sizes, ends: &[u8], leasts: &[u16], w: &mut [u64], x: Step) -> usize
+    requires { ⌜ (Bounded s) × (length (now ends) ≡ 256) × (length (now leasts) ≡ 256) × (Holds s atRest (now w)) ⌝ }
+    ensures { λ r. ⌜ ByDesign s (now (ends .entry)) (now (leasts .entry)) (λ d. r ≡ stepFault (s .level) d (now (w .entry)) (meant x)) ⌝ }
+    ensures { λ r. ⌜ ByDesign s (now (ends .entry)) (now (leasts .entry)) (λ d. now (w .exit) ≡ leftBy (s .level) d (now (w .entry)) (meant x)) ⌝ }
+    ensures { λ r. ⌜ Grown s (now (w .entry)) (now (w .exit)) ⌝ }
 {
-    if at_least(p, s.correct) {
+    kept_step(s, ends, leasts, w, x)
+}
+
+// The same by the kept rules themselves. A step without a message goes its own way after the checks that both have, so that
+// neither asks again whether there is one.
+fn kept_step(s: Sizes, ends: &[u8], leasts: &[u16], w: &mut [u64], x: Step) -> usize
+    requires { ⌜ (Bounded s) × (length (now ends) ≡ 256) × (length (now leasts) ≡ 256) × (Holds s atRest (now w)) ⌝ }
+    ensures { λ r. ⌜ r ≡ keptFault s (now (ends .entry)) (now (leasts .entry)) (now (w .entry)) (meant x) ⌝ }
+    ensures { λ r. ⌜ now (w .exit) ≡ keptLeft s (now (ends .entry)) (now (leasts .entry)) (now (w .entry)) (meant x) ⌝ }
+{
+    if at_least(x.board, s.correct) {
         return 20;
     }
-    if at_least(r, s.rules) {
+    if at_least(x.rule, s.rules) {
         return 21;
     }
-    if other_state(table, s, ends, w, p, r) {
+    if other_state(ends, w, x.board, x.rule) {
         return 22;
     }
-    if silent(m, q) {
-        return quiet(table, s, ends, leasts, w, p, r, m, q);
+    if schedule::silent(x) {
+        return without_message(s, ends, leasts, w, x);
     }
-    heard(table, s, ends, leasts, w, p, r, m, q)
+    with_message(s, ends, leasts, w, x)
 }
 
 // The rest of a step without a message.
-fn quiet(
-    table: &[u8],
-    s: Sizes,
-    ends: &[u8],
-    leasts: &[u16],
-    w: &mut [u64],
-    p: usize,
-    r: usize,
-    m: usize,
-    q: usize,
-) -> usize
-    requires { ⌜ (Suits s (now table)) × (Kept s (now table) (now ends) (now leasts)) × (Holds s 900000 (now w)) × (Leaves s (now table) (now w) p r) × (silentBytes m q ≡ true) ⌝ }
-    ensures { λ x. ⌜ x ≡ stepFault (s .form) (designOf s (now (table .entry))) (now (w .entry)) (stepOf p r m q) ⌝ }
-    ensures { λ x. ⌜ now (w .exit) ≡ (stepped (s .form) (designOf s (now (table .entry))) (now (w .entry)) (stepOf p r m q) if eqb (stepFault (s .form) (designOf s (now (table .entry))) (now (w .entry)) (stepOf p r m q)) 0 else now (w .entry)) ⌝ }
+fn without_message(s: Sizes, ends: &[u8], leasts: &[u16], w: &mut [u64], x: Step) -> usize
+    requires { ⌜ (Bounded s) × (length (now ends) ≡ 256) × (length (now leasts) ≡ 256) × (Holds s atRest (now w)) × (Leaves s (now ends) (now w) (meant x)) × (paper.silent (meant x) ≡ true) ⌝ }
+    ensures { λ r. ⌜ r ≡ keptFault s (now (ends .entry)) (now (leasts .entry)) (now (w .entry)) (meant x) ⌝ }
+    ensures { λ r. ⌜ now (w .exit) ≡ keptLeft s (now (ends .entry)) (now (leasts .entry)) (now (w .entry)) (meant x) ⌝ }
 {
-    if not_met(table, s, leasts, w, p, r, m) {
+    if not_met(s, leasts, w, x.board, x.rule, x.mtype) {
         return 25;
     }
-    apply_step(table, s, ends, w, p, r, m, q);
+    change(s, ends, w, x);
     0
 }
 
 // The rest of a step with one.
-fn heard(
-    table: &[u8],
-    s: Sizes,
-    ends: &[u8],
-    leasts: &[u16],
-    w: &mut [u64],
-    p: usize,
-    r: usize,
-    m: usize,
-    q: usize,
-) -> usize
-    requires { ⌜ (Suits s (now table)) × (Kept s (now table) (now ends) (now leasts)) × (Holds s 900000 (now w)) × (Leaves s (now table) (now w) p r) ⌝ }
-    ensures { λ x. ⌜ x ≡ stepFault (s .form) (designOf s (now (table .entry))) (now (w .entry)) (stepOf p r m q) ⌝ }
-    ensures { λ x. ⌜ now (w .exit) ≡ (stepped (s .form) (designOf s (now (table .entry))) (now (w .entry)) (stepOf p r m q) if eqb (stepFault (s .form) (designOf s (now (table .entry))) (now (w .entry)) (stepOf p r m q)) 0 else now (w .entry)) ⌝ }
+fn with_message(s: Sizes, ends: &[u8], leasts: &[u16], w: &mut [u64], x: Step) -> usize
+    requires { ⌜ (Bounded s) × (length (now ends) ≡ 256) × (length (now leasts) ≡ 256) × (Holds s atRest (now w)) × (Leaves s (now ends) (now w) (meant x)) ⌝ }
+    ensures { λ r. ⌜ r ≡ keptFault s (now (ends .entry)) (now (leasts .entry)) (now (w .entry)) (meant x) ⌝ }
+    ensures { λ r. ⌜ now (w .exit) ≡ keptLeft s (now (ends .entry)) (now (leasts .entry)) (now (w .entry)) (meant x) ⌝ }
 {
-    if malformed(s, m, q) {
+    if malformed(s, x) {
         return 23;
     }
-    if not_in_transit(s, w, p, m, q) {
+    if not_in_transit(s, w, x) {
         return 24;
     }
-    if not_met(table, s, leasts, w, p, r, m) {
+    if not_met(s, leasts, w, x.board, x.rule, x.mtype) {
         return 25;
     }
-    apply_step(table, s, ends, w, p, r, m, q);
+    change(s, ends, w, x);
     0
 }
 
@@ -113,58 +90,43 @@ fn at_least(x: usize, limit: usize) -> bool
 }
 
 // 22
-pub fn other_state(table: &[u8], s: Sizes, ends: &[u8], w: &[u64], p: usize, r: usize) -> bool
-    requires { ⌜ (Suits s (now table)) × (EndsTo (s .types) (now table) (now ends) (s .rules)) × (r < s .rules) × (p < length (now w)) ⌝ }
-    ensures { λ b. ⌜ b ≡ (words.state (now (w .entry)) p differs fromOf (now (table .entry)) r) ⌝ }
+pub fn other_state(ends: &[u8], w: &[u64], p: usize, r: usize) -> bool
+    requires { ⌜ (length (now ends) ≡ 256) × (r < 64) × (p < length (now w)) ⌝ }
+    ensures { λ b. ⌜ b ≡ (state (now (w .entry)) p differs keptFrom (now (ends .entry)) r) ⌝ }
 {
-    w[p] != rules::from(table, s, ends, r) as u64
+    w[p] != rules::from(ends, r) as u64
 }
 
 // 23
-fn malformed(s: Sizes, m: usize, q: usize) -> bool
+fn malformed(s: Sizes, x: Step) -> bool
     requires { ⌜ Bounded s ⌝ }
-    ensures { λ b. ⌜ b ≡ malformedIn s m q ⌝ }
+    ensures { λ b. ⌜ b ≡ steps.malformed (s .level) (sized s) (meant x) ⌝ }
 {
-    let n = words::form::sources(s.form, s.wide, s.correct, s.faulty);
-    !silent(m, q) & ((s.types <= m) | (n <= q))
-}
-
-// Type and source 255: no message.
-pub fn silent(m: usize, q: usize) -> bool
-    ensures { λ b. ⌜ b ≡ silentBytes m q ⌝ }
-{
-    (m == 255) & (q == 255)
+    let n = words::level::sources(s.level, s.wide, s.correct, s.faulty);
+    !schedule::silent(x) & ((s.types <= x.mtype) | (n <= x.source))
 }
 
 // 24
-fn not_in_transit(s: Sizes, w: &[u64], p: usize, m: usize, q: usize) -> bool
-    requires { ⌜ (Bounded s) × (p < s .correct) × (malformedIn s m q ≡ false) × (Holds s 1000000 (now w)) ⌝ }
-    ensures { λ b. ⌜ b ≡ (not (silentBytes m q) && not (transitIn s (now (w .entry)) p m q)) ⌝ }
+fn not_in_transit(s: Sizes, w: &[u64], x: Step) -> bool
+    requires { ⌜ (Bounded s) × (Formed s (meant x)) × (Holds s inStep (now w)) ⌝ }
+    ensures { λ b. ⌜ b ≡ notInTransit (s .level) (sized s) (now (w .entry)) (meant x) ⌝ }
 {
-    if silent(m, q) {
+    if schedule::silent(x) {
         return false;
     }
-    !words::in_transit(s, w, p, m, q)
+    !words::in_transit(s, w, x.board, x.mtype, x.source)
 }
 
 // 25, by the counts after the receipt
-pub fn not_met(
-    table: &[u8],
-    s: Sizes,
-    leasts: &[u16],
-    w: &[u64],
-    p: usize,
-    r: usize,
-    m: usize,
-) -> bool
-    requires { ⌜ (Suits s (now table)) × (LeastsTo s (now table) (now leasts) (s .rules) 0) × (p < s .correct) × (r < s .rules) × (Holds s 1000000 (now w)) ⌝ }
-    ensures { λ b. ⌜ b ≡ not (every (s .types) (λ i. metAt (now (table .entry)) (coefficientsAt (now (table .entry)) r i) (s .correct + s .faulty) (s .t) (countIn s (now (w .entry)) p i + digit (eqb m i)))) ⌝ }
+pub fn not_met(s: Sizes, leasts: &[u16], w: &[u64], p: usize, r: usize, m: usize) -> bool
+    requires { ⌜ (Bounded s) × (length (now leasts) ≡ 256) × (p < s .correct) × (r < s .rules) × (Holds s inStep (now w)) ⌝ }
+    ensures { λ b. ⌜ b ≡ not (metWith s (now (leasts .entry)) (now (w .entry)) p r m) ⌝ }
 {
     let types = s.types;
     let mut i = 0;
     while i < types {
         let count = words::count(s, w, p, i) + gain(m, i);
-        if count < rules::least(table, s, leasts, r, i) {
+        if count < rules::least(leasts, r, i) {
             return true;
         }
         i += 1;
@@ -180,42 +142,42 @@ fn gain(m: usize, i: usize) -> u64
 }
 
 // ---- the change
-// The step, which is not refused: a receipt, and a move with perhaps a send.
-pub fn apply_step(
-    table: &[u8],
-    s: Sizes,
-    ends: &[u8],
-    w: &mut [u64],
-    p: usize,
-    r: usize,
-    m: usize,
-    q: usize,
-)
-    requires { ⌜ (Suits s (now table)) × (EndsTo (s .types) (now table) (now ends) (s .rules)) × (Holds s 900000 (now w)) × (stepFault (s .form) (designOf s (now table)) (now w) (stepOf p r m q) ≡ 0) ⌝ }
-    ensures { λ x. ⌜ now (w .exit) ≡ stepped (s .form) (designOf s (now (table .entry))) (now (w .entry)) (stepOf p r m q) ⌝ }
+// The step, which is known to be accepted: for every design that the kept ends stand for.
+pub fn apply_step(s: Sizes, ends: &[u8], w: &mut [u64], x: Step)
+    requires { ⌜ (Bounded s) × (length (now ends) ≡ 256) × (Formed s (meant x)) × (Holds s atRest (now w)) ⌝ }
+    ensures { λ r. ⌜ ByEnds s (now (ends .entry)) (λ d. now (w .exit) ≡ stepped (s .level) d (now (w .entry)) (meant x)) ⌝ }
+    ensures { λ r. ⌜ Grown s (now (w .entry)) (now (w .exit)) ⌝ }
 {
-    receive(s, w, p, m, q);
-    move_on(table, s, ends, w, p, r);
+    change(s, ends, w, x);
 }
 
-// Board p receives the message that the step names, if any.
-fn receive(s: Sizes, w: &mut [u64], p: usize, m: usize, q: usize)
-    requires { ⌜ (Bounded s) × (p < s .correct) × (malformedIn s m q ≡ false) × (Holds s 1000000 (now w)) ⌝ }
-    ensures { λ x. ⌜ now (w .exit) ≡ (now (w .entry) if silentBytes m q else words.hear (s .correct) (s .types) (forms.wide (s .form)) p m (forms.slot (s .form) q) (forms.bump (s .form) q) (now (w .entry))) ⌝ }
+// A receipt, and a move with perhaps a send.
+fn change(s: Sizes, ends: &[u8], w: &mut [u64], x: Step)
+    requires { ⌜ (Bounded s) × (length (now ends) ≡ 256) × (Formed s (meant x)) × (Holds s atRest (now w)) ⌝ }
+    ensures { λ r. ⌜ now (w .exit) ≡ keptStepped s (now (ends .entry)) (now (w .entry)) (meant x) ⌝ }
 {
-    if silent(m, q) {
+    receive(s, w, x);
+    move_on(s, ends, w, x.board, x.rule);
+}
+
+// The step's board receives the message that it names, if any.
+fn receive(s: Sizes, w: &mut [u64], x: Step)
+    requires { ⌜ (Bounded s) × (Formed s (meant x)) × (Holds s inStep (now w)) ⌝ }
+    ensures { λ r. ⌜ now (w .exit) ≡ steps.heard (s .level) (sized s) (now (w .entry)) (meant x) ⌝ }
+{
+    if schedule::silent(x) {
         return;
     }
-    words::hear(s, w, p, m, q);
+    words::hear(s, w, x.board, x.mtype, x.source);
 }
 
 // Board p enters the state that rule r leads to, and sends the rule's type, if any.
-fn move_on(table: &[u8], s: Sizes, ends: &[u8], w: &mut [u64], p: usize, r: usize)
-    requires { ⌜ (Suits s (now table)) × (EndsTo (s .types) (now table) (now ends) (s .rules)) × (p < s .correct) × (r < s .rules) × (Holds s 1000000 (now w)) ⌝ }
-    ensures { λ x. ⌜ now (w .exit) ≡ words.tell (s .correct) (s .types) (forms.wide (s .form)) (missing (tables.sentOf (now (table .entry)) (toOf (now (table .entry)) r)) (tables.sentOf (now (table .entry)) (fromOf (now (table .entry)) r))) (forms.bump (s .form) (columnIn s .own p)) (s .types) (set (now (w .entry)) p (toOf (now (table .entry)) r)) ⌝ }
+fn move_on(s: Sizes, ends: &[u8], w: &mut [u64], p: usize, r: usize)
+    requires { ⌜ (Bounded s) × (length (now ends) ≡ 256) × (p < s .correct) × (r < s .rules) × (Holds s inStep (now w)) ⌝ }
+    ensures { λ x. ⌜ now (w .exit) ≡ movedBy s (now (ends .entry)) p r (now (w .entry)) ⌝ }
 {
-    words::enter(w, p, rules::to(table, s, ends, r) as u64);
-    let m = rules::sends(table, s, ends, r);
+    words::enter(w, p, rules::to(ends, r) as u64);
+    let m = rules::sends(ends, r);
     if m < s.types {
         words::tell(s, w, p, m);
     }

@@ -14,28 +14,26 @@ use Rattle.fault.specs.Tests.{_over_, _atLeast_, _differs_, outside}
 use Rattle.fault.specs.Fault.{refused, _if_else_, firstFault}
 use Rattle.fault.proofs.FaultLaws.{if-passed, then-clean, first-clean, Clean, if-most, Within, check-within, then-within, first-within}
 use Rattle.fault.proofs.TestLaws.{or-none, inside, same}
-use Rattle.table.specs.Table.{stateDistance, ruleDistance, statesOf, rulesOf, typesOf, factorOf, flagsOf, initialOf, sentOf, ruleSize, ruleAt, fromOf}
-use Rattle.table.specs.Refusals.{tooShort, countsOff, distancesOff, stateOff, noInitial, noState, forgets, sendsTwo, stateFault, ruleFault, recordsFault, tableFault}
-use Rattle.table.specs.Facts.{Sized, StateFits, RuleEnds, RuleFits, WellFormed}
+use Rattle.fault.specs.Bytes.{trailerBytes}
+use Rattle.table.specs.Table.{stateDistance, ruleDistance, statesOf, rulesOf, typesOf, factorOf, mostStates, mostRules, mostTypes, mostFactor, flagsOf, initialOf, sentOf, ruleBytes, ruleSize, mostRecords, mostTable, ruleAt, fromOf, stateBytes, recordsBytes}
+use Rattle.table.specs.Refusals.{tooShort, countsOutside, countsOff, distancesOff, stateOff, noInitial, noState, forgets, sendsTwo, stateFault, ruleFault, recordsFault, tableFault}
+use Rattle.table.specs.Facts.{CountsFit, Sized, StateFits, RuleEnds, RuleFits, WellFormed}
 
-pub long : (s : List ℕ) → tooShort s ≡ false → 8 ≤ length s
+pub long : (s : List ℕ) → tooShort s ≡ false → trailerBytes ≤ length s
 unfolding tooShort
-long s h = ltb-false (length s) 8 h
+long s h = ltb-false (length s) trailerBytes h
 
-pub sized : (s : List ℕ) → tooShort s ≡ false → countsOff s ≡ false → distancesOff s ≡ false → Sized s
-unfolding countsOff distancesOff
-sized s a b d =
-    let b₁ = or-none (outside 1 16 (statesOf s) || outside 1 64 (rulesOf s) || outside 1 4 (typesOf s)) _ b in
-    let b₂ = or-none (outside 1 16 (statesOf s) || outside 1 64 (rulesOf s)) _ (b₁ .0) in
-    let b₃ = or-none (outside 1 16 (statesOf s)) _ (b₂ .0) in
-    let d₁ = or-none (stateDistance s differs 2 * statesOf s + rulesOf s * ruleSize s || ruleDistance s differs rulesOf s * ruleSize s) _ d in
-    let d₂ = or-none (stateDistance s differs 2 * statesOf s + rulesOf s * ruleSize s) _ (d₁ .0) in
-    let st = inside 1 16 (statesOf s) (b₃ .0) in
-    let ru = inside 1 64 (rulesOf s) (b₃ .1) in
-    let ty = inside 1 4 (typesOf s) (b₂ .1) in
-    let fa = inside 1 8 (factorOf s) (b₁ .1) in
+pub counts-by : {b : Bool} (n m T k : ℕ) → b ≡ countsOutside n m T k → b ≡ false → CountsFit n m T k
+unfolding countsOutside
+counts-by n m T k e f =
+    let p = or-none (outside 1 mostStates n || outside 1 mostRules m || outside 1 mostTypes T) _ (sym e ∙ f) in
+    let q = or-none (outside 1 mostStates n || outside 1 mostRules m) _ (p .0) in
+    let r = or-none (outside 1 mostStates n) _ (q .0) in
+    let st = inside 1 mostStates n (r .0) in
+    let ru = inside 1 mostRules m (r .1) in
+    let ty = inside 1 mostTypes T (q .1) in
+    let fa = inside 1 mostFactor k (p .1) in
     record {
-      long = long s a;
       some-state = st .0;
       few-states = st .1;
       some-rule = ru .0;
@@ -44,27 +42,45 @@ sized s a b d =
       few-types = ty .1;
       some-factor = fa .0;
       few-factor = fa .1;
-      whole = same (length s) _ (d₁ .1) ∙ ap (λ (x : ℕ). x + 8) (same (stateDistance s) _ (d₂ .0));
     }
 
-pub long-by : {b : Bool} (s : List ℕ) → b ≡ tooShort s → b ≡ false → 8 ≤ length s
+pub sized : (s : List ℕ) → tooShort s ≡ false → countsOff s ≡ false → distancesOff s ≡ false → Sized s
+unfolding countsOff distancesOff
+sized s a b d =
+    let C = counts-by (statesOf s) (rulesOf s) (typesOf s) (factorOf s) refl b in
+    let d₁ = or-none (stateDistance s differs recordsBytes (statesOf s) (rulesOf s) (typesOf s) || ruleDistance s differs rulesOf s * ruleSize s) _ d in
+    let d₂ = or-none (stateDistance s differs recordsBytes (statesOf s) (rulesOf s) (typesOf s)) _ (d₁ .0) in
+    record {
+      long = long s a;
+      some-state = C .some-state;
+      few-states = C .few-states;
+      some-rule = C .some-rule;
+      few-rules = C .few-rules;
+      some-type = C .some-type;
+      few-types = C .few-types;
+      some-factor = C .some-factor;
+      few-factor = C .few-factor;
+      whole = same (length s) _ (d₁ .1) ∙ ap (λ (x : ℕ). x + trailerBytes) (same (stateDistance s) _ (d₂ .0));
+    }
+
+pub long-by : {b : Bool} (s : List ℕ) → b ≡ tooShort s → b ≡ false → trailerBytes ≤ length s
 long-by s e f = long s (sym e ∙ f)
 
 pub sized-by : {a b d : Bool} (s : List ℕ) → a ≡ tooShort s → a ≡ false → b ≡ countsOff s → b ≡ false → d ≡ distancesOff s → d ≡ false → Sized s
 sized-by s e f g h i j = sized s (sym e ∙ f) (sym g ∙ h) (sym i ∙ j)
 
-pub rule-inside : (s : List ℕ) → Sized s → (r : ℕ) → r < rulesOf s → ruleAt s r + ruleSize s + 8 ≤ length s
+pub rule-inside : (s : List ℕ) → Sized s → (r : ℕ) → r < rulesOf s → ruleAt s r + ruleSize s + trailerBytes ≤ length s
 unfolding ruleAt
 rule-inside s z r h =
     omega (arith, z .whole, add-mul r 1 (ruleSize s), one-mul (ruleSize s), mul-le-mul-right {m = r + 1} {n = rulesOf s} (ruleSize s) (omega arith))
 
 -- `rule_at`, from what it has in hand
-module _ {a b p : ℕ} (s : List ℕ) (k : ℕ) (e : a ≡ statesOf s) (f : b ≡ typesOf s) (g : p ≡ k * (2 + 3 * b)) where
-  pub rule-at-is : 2 * a + p ≡ ruleAt s k
+module _ {a b p : ℕ} (s : List ℕ) (k : ℕ) (e : a ≡ statesOf s) (f : b ≡ typesOf s) (g : p ≡ k * ruleBytes b) where
+  pub rule-at-is : stateBytes * a + p ≡ ruleAt s k
   unfolding ruleAt
   rule-at-is = rw (g, e, f)
 
-  pub rule-at-inside : Sized s → k < rulesOf s → 2 * a + p + ruleSize s + 8 ≤ length s
+  pub rule-at-inside : Sized s → k < rulesOf s → stateBytes * a + p + ruleSize s + trailerBytes ≤ length s
   rule-at-inside z h = rw rule-at-is (rule-inside s z k h)
 
 -- ---- one state, one rule
@@ -138,6 +154,10 @@ well-formed s h =
       rule = λ r l. rule-fits s r (first-clean (ruleFault s) (rulesOf s) (f .1) r l);
     }
 
+-- ---- its records are few bytes
+pub records-short : (n m T : ℕ) → n ≤ mostStates → m ≤ mostRules → T ≤ mostTypes → recordsBytes n m T ≤ mostRecords
+records-short n m T a b c = omega (arith, mul-le-mul-right {m = m} {n = mostRules} (ruleBytes T) b)
+
 -- ---- what a table is refused for is at most 14, its place at most 64
 module _ (s : List ℕ) where
   state-most : (i : ℕ) → stateFault s i ≤ 14
@@ -158,7 +178,5 @@ module _ (s : List ℕ) where
   unfolding tableFault
   table-within = check-within _ (omega arith) (λ a. check-within _ (omega arith) (λ b. check-within _ (omega arith) (λ d. records-within (sized s a b d))))
 
-  -- 936: 16 states of 2 bytes, 64 rules of 14, a trailer of 8
-  pub table-short : Sized s → length s ≤ 936
-  table-short z =
-      let a = mul-le-mul-right {m = rulesOf s} {n = 64} (ruleSize s) (z .few-rules) in omega (arith, z .whole, z .few-states, z .few-types)
+  pub table-short : Sized s → length s ≤ mostTable
+  table-short z = omega (arith, z .whole, records-short (statesOf s) (rulesOf s) (typesOf s) (z .few-states) (z .few-rules) (z .few-types))

@@ -6,20 +6,32 @@ use Prim.Native.Nat.{ℕ, _+_, _*_, _^_, _≤_, _<_}
 use lib.ListN.{length}
 use Rattle.senders.specs.Tally.{count, some}
 use Rattle.senders.specs.Set.{missing}
-use Rattle.table.specs.Table.{statesOf, rulesOf, typesOf, factorOf, flagsOf, initialOf, sentOf, ruleSize, fromOf, toOf}
+use Rattle.fault.specs.Bytes.{trailerBytes}
+use Rattle.table.specs.Table.{statesOf, rulesOf, typesOf, factorOf, mostStates, mostRules, mostTypes, mostFactor, flagsOf, initialOf, sentOf, recordsBytes, fromOf, toOf}
+
+-- counts that a table may have (refusal 2)
+pub record CountsFit (states rules types factor : ℕ) : Type 0 where
+  pub some-state : 1 ≤ states
+  pub few-states : states ≤ mostStates
+  pub some-rule : 1 ≤ rules
+  pub few-rules : rules ≤ mostRules
+  pub some-type : 1 ≤ types
+  pub few-types : types ≤ mostTypes
+  pub some-factor : 1 ≤ factor
+  pub few-factor : factor ≤ mostFactor
 
 -- its sizes (refusals 1 to 3)
 pub record Sized (s : List ℕ) : Type 0 where
-  pub long : 8 ≤ length s
+  pub long : trailerBytes ≤ length s
   pub some-state : 1 ≤ statesOf s
-  pub few-states : statesOf s ≤ 16
+  pub few-states : statesOf s ≤ mostStates
   pub some-rule : 1 ≤ rulesOf s
-  pub few-rules : rulesOf s ≤ 64
+  pub few-rules : rulesOf s ≤ mostRules
   pub some-type : 1 ≤ typesOf s
-  pub few-types : typesOf s ≤ 4
+  pub few-types : typesOf s ≤ mostTypes
   pub some-factor : 1 ≤ factorOf s
-  pub few-factor : factorOf s ≤ 8
-  pub whole : length s ≡ 2 * statesOf s + rulesOf s * ruleSize s + 8
+  pub few-factor : factorOf s ≤ mostFactor
+  pub whole : length s ≡ recordsBytes (statesOf s) (rulesOf s) (typesOf s) + trailerBytes
 
 -- a state (refusal 4)
 pub record StateFits (s : List ℕ) (i : ℕ) : Type 0 where

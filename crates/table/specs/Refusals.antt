@@ -8,21 +8,26 @@ use Rattle.senders.specs.Set.{missing}
 use Rattle.fault.specs.declared.Verdict.{Verdict}
 use Rattle.fault.specs.Tests.{_below_, _over_, _atLeast_, _differs_, outside}
 use Rattle.fault.specs.Fault.{refused, _if_else_, _▹_, firstFault}
-use Rattle.table.specs.Table.{stateDistance, ruleDistance, statesOf, rulesOf, typesOf, factorOf, flagsOf, initialOf, sentOf, ruleSize, fromOf, toOf}
+use Rattle.fault.specs.Bytes.{trailerBytes}
+use Rattle.table.specs.Table.{stateDistance, ruleDistance, statesOf, rulesOf, typesOf, factorOf, mostStates, mostRules, mostTypes, mostFactor, flagsOf, initialOf, sentOf, ruleSize, fromOf, toOf, recordsBytes}
 
--- 1: table part under 8 bytes
+-- 1: table part shorter than a trailer
 unfoldable pub tooShort : List ℕ → Bool
-tooShort s = length s below 8
+tooShort s = length s below trailerBytes
 
 -- 2: a trailer count or k out of range
+unfoldable pub countsOutside : ℕ → ℕ → ℕ → ℕ → Bool
+countsOutside states rules types factor =
+    outside 1 mostStates states || outside 1 mostRules rules || outside 1 mostTypes types || outside 1 mostFactor factor
+
 unfoldable pub countsOff : List ℕ → Bool
-countsOff s = outside 1 16 (statesOf s) || outside 1 64 (rulesOf s) || outside 1 4 (typesOf s) || outside 1 8 (factorOf s)
+countsOff s = countsOutside (statesOf s) (rulesOf s) (typesOf s) (factorOf s)
 
 -- 3: distances disagree with the counts or the table's length
 unfoldable pub distancesOff : List ℕ → Bool
 distancesOff s =
-    stateDistance s differs 2 * statesOf s + rulesOf s * ruleSize s || ruleDistance s differs rulesOf s * ruleSize s ||
-    length s differs stateDistance s + 8
+    stateDistance s differs recordsBytes (statesOf s) (rulesOf s) (typesOf s) || ruleDistance s differs rulesOf s * ruleSize s ||
+    length s differs stateDistance s + trailerBytes
 
 -- 4, of a state: flag above bit 1; sent bit at or above T; initial and already sent
 unfoldable pub stateOff : List ℕ → ℕ → Bool

@@ -1,15 +1,38 @@
 // The table part: refusals 1 to 8, and the views that stepping needs.
 ghost use mathlib.Core.Path.{_≡_};
-ghost use Prim.Native.Nat.{_+_, _≤_, _<_};
+ghost use Prim.Native.Nat.{_+_, _*_, _≤_, _<_};
 ghost use lib.ListN.{length};
+ghost use Rattle.fault.specs.Bytes.{byteAt, trailerBytes};
 ghost use Rattle.senders.specs.Tally.{count};
 ghost use Rattle.senders.specs.Set.{missing};
 ghost use Rattle.fault.specs.Fault.{firstFault};
-ghost use Rattle.table.specs.Table.{statesOf, rulesOf, typesOf, factorOf, flagsOf, initialOf, sentOf, ruleSize, ruleAt, fromOf, toOf};
-ghost use Rattle.table.specs.Refusals.{tooShort, countsOff, distancesOff, stateOff, noInitial, noState, sendsTwo, stateFault, ruleFault, recordsFault, tableFault};
+ghost use Rattle.table.specs.Table.{statesOf, rulesOf, typesOf, factorOf, flagsOf, initialOf, sentOf, typeBytes, ruleSize, ruleAt, fromOf, toOf, ruleOf, coefficientsOf, endBytes};
+ghost use Rattle.table.specs.Refusals.{tooShort, countsOutside, countsOff, distancesOff, stateOff, noInitial, noState, sendsTwo, stateFault, ruleFault, recordsFault, tableFault};
 ghost use Rattle.table.specs.Refusals as refusals;
 ghost use Rattle.table.specs.Facts.{Sized, RuleEnds};
 use fault::Verdict;
+
+// The most that each of the four counts may be; the least is 1.
+pub const MOST_STATES: usize = 16;
+
+pub const MOST_RULES: usize = 64;
+
+pub const MOST_TYPES: usize = 4;
+
+pub const MOST_FACTOR: usize = 8;
+
+// How many bytes a state has: its flags and the mask of types sent.
+pub const STATE_BYTES: usize = 2;
+
+// How many bytes a rule has for its ends, and for each type: a, b, d.
+pub const END_BYTES: usize = 2;
+
+pub const TYPE_BYTES: usize = 3;
+
+// The most bytes that a table has: its states, its rules and a trailer.
+pub const MOST_BYTES: usize = STATE_BYTES * MOST_STATES
+    + MOST_RULES * (END_BYTES + TYPE_BYTES * MOST_TYPES)
+    + fault::TRAILER_BYTES;
 
 // The table's first refusal, for every byte string.
 pub fn table_fault(s: &[u8]) -> Verdict
@@ -44,28 +67,28 @@ fn records_fault(s: &[u8]) -> Verdict
 
 // ---- the trailer
 pub fn states(s: &[u8]) -> usize
-    requires { ⌜ 8 ≤ length (now s) ⌝ }
+    requires { ⌜ trailerBytes ≤ length (now s) ⌝ }
     ensures { λ r. ⌜ (r ≡ statesOf (now (s .entry))) × (r < 256) ⌝ }
 {
     fault::trailer_byte(s, 4)
 }
 
 pub fn rules(s: &[u8]) -> usize
-    requires { ⌜ 8 ≤ length (now s) ⌝ }
+    requires { ⌜ trailerBytes ≤ length (now s) ⌝ }
     ensures { λ r. ⌜ (r ≡ rulesOf (now (s .entry))) × (r < 256) ⌝ }
 {
     fault::trailer_byte(s, 5)
 }
 
 pub fn types(s: &[u8]) -> usize
-    requires { ⌜ 8 ≤ length (now s) ⌝ }
+    requires { ⌜ trailerBytes ≤ length (now s) ⌝ }
     ensures { λ r. ⌜ (r ≡ typesOf (now (s .entry))) × (r < 256) ⌝ }
 {
     fault::trailer_byte(s, 6)
 }
 
 pub fn factor(s: &[u8]) -> usize
-    requires { ⌜ 8 ≤ length (now s) ⌝ }
+    requires { ⌜ trailerBytes ≤ length (now s) ⌝ }
     ensures { λ r. ⌜ (r ≡ factorOf (now (s .entry))) × (r < 256) ⌝ }
 {
     fault::trailer_byte(s, 7)
@@ -75,28 +98,37 @@ pub fn factor(s: &[u8]) -> usize
 fn too_short(s: &[u8]) -> bool
     ensures { λ r. ⌜ r ≡ tooShort (now (s .entry)) ⌝ }
 {
-    s.len() < 8
+    s.len() < fault::TRAILER_BYTES
 }
 
 // 2
 fn counts_off(s: &[u8]) -> bool
-    requires { ⌜ 8 ≤ length (now s) ⌝ }
+    requires { ⌜ trailerBytes ≤ length (now s) ⌝ }
     ensures { λ r. ⌜ r ≡ countsOff (now (s .entry)) ⌝ }
 {
-    fault::outside(1, 16, states(s))
-        | fault::outside(1, 64, rules(s))
-        | fault::outside(1, 4, types(s))
-        | fault::outside(1, 8, factor(s))
+    counts_outside(states(s), rules(s), types(s), factor(s))
+}
+
+// Is one of the counts none that a table may have?
+pub fn counts_outside(states: usize, rules: usize, types: usize, factor: usize) -> bool
+    ensures { λ r. ⌜ r ≡ countsOutside states rules types factor ⌝ }
+{
+    fault::outside(1, MOST_STATES, states)
+        | fault::outside(1, MOST_RULES, rules)
+        | fault::outside(1, MOST_TYPES, types)
+        | fault::outside(1, MOST_FACTOR, factor)
 }
 
 // 3
 fn distances_off(s: &[u8]) -> bool
-    requires { ⌜ 8 ≤ length (now s) ⌝ }
+    requires { ⌜ trailerBytes ≤ length (now s) ⌝ }
     ensures { λ r. ⌜ r ≡ distancesOff (now (s .entry)) ⌝ }
 {
-    let rules = fault::times(rules(s), 2 + 3 * types(s));
+    let rules = fault::times(rules(s), END_BYTES + TYPE_BYTES * types(s));
     let back = fault::trailer_u16(s, 0);
-    (back != 2 * states(s) + rules) | (fault::trailer_u16(s, 2) != rules) | (s.len() != back + 8)
+    (back != STATE_BYTES * states(s) + rules)
+        | (fault::trailer_u16(s, 2) != rules)
+        | (s.len() != back + fault::TRAILER_BYTES)
 }
 
 // ---- the states
@@ -104,7 +136,7 @@ pub fn flags(s: &[u8], i: usize) -> usize
     requires { ⌜ (Sized (now s)) × (i < statesOf (now s)) ⌝ }
     ensures { λ r. ⌜ (r ≡ flagsOf (now (s .entry)) i) × (r < 256) ⌝ }
 {
-    fault::byte_at(s, 2 * i)
+    fault::byte_at(s, STATE_BYTES * i)
 }
 
 // The mask of the types that a state has sent.
@@ -112,7 +144,7 @@ pub fn sent(s: &[u8], i: usize) -> usize
     requires { ⌜ (Sized (now s)) × (i < statesOf (now s)) ⌝ }
     ensures { λ r. ⌜ (r ≡ sentOf (now (s .entry)) i) × (r < 256) ⌝ }
 {
-    fault::byte_at(s, 2 * i + 1)
+    fault::byte_at(s, STATE_BYTES * i + 1)
 }
 
 pub fn initial(s: &[u8], i: usize) -> bool
@@ -181,9 +213,17 @@ fn no_initial(s: &[u8]) -> bool
 // Where a rule's record starts. The whole record lies before the trailer.
 pub fn rule_at(s: &[u8], k: usize) -> usize
     requires { ⌜ (Sized (now s)) × (k < rulesOf (now s)) ⌝ }
-    ensures { λ r. ⌜ (r ≡ ruleAt (now (s .entry)) k) × (r + ruleSize (now (s .entry)) + 8 ≤ length (now (s .entry))) ⌝ }
+    ensures { λ r. ⌜ (r ≡ ruleAt (now (s .entry)) k) × (r + ruleSize (now (s .entry)) + trailerBytes ≤ length (now (s .entry))) ⌝ }
 {
-    2 * states(s) + fault::times(k, 2 + 3 * types(s))
+    place_of(s, states(s), types(s), k)
+}
+
+// The same, by the numbers of states and types that were read before.
+fn place_of(s: &[u8], states: usize, types: usize, k: usize) -> usize
+    requires { ⌜ (Sized (now s)) × (states ≡ statesOf (now s)) × (types ≡ typesOf (now s)) × (k < rulesOf (now s)) ⌝ }
+    ensures { λ r. ⌜ (r ≡ ruleAt (now (s .entry)) k) × (r + ruleSize (now (s .entry)) + trailerBytes ≤ length (now (s .entry))) ⌝ }
+{
+    STATE_BYTES * states + fault::times(k, END_BYTES + TYPE_BYTES * types)
 }
 
 pub fn from(s: &[u8], k: usize) -> usize
@@ -198,6 +238,42 @@ pub fn to(s: &[u8], k: usize) -> usize
     ensures { λ r. ⌜ (r ≡ toOf (now (s .entry)) k) × (r < 256) ⌝ }
 {
     fault::byte_at(s, rule_at(s, k) + 1)
+}
+
+// The record of a rule, as a part, by the numbers of states and types: a loop over the rules reads them once. No byte is copied.
+pub fn rule(s: &[u8], states: usize, types: usize, k: usize) -> &[u8]
+    requires { ⌜ (Sized (now s)) × (states ≡ statesOf (now s)) × (types ≡ typesOf (now s)) × (k < rulesOf (now s)) ⌝ }
+    ensures { λ r. ⌜ (now r ≡ ruleOf (now (s .entry)) k) × (length (now r) ≡ ruleSize (now (s .entry))) ⌝ }
+{
+    let at = place_of(s, states, types, k);
+    let end = at + END_BYTES + TYPE_BYTES * types;
+    &s[at..end]
+}
+
+// Of a rule's record, the state that it leaves.
+pub fn leaves(rule: &[u8]) -> usize
+    requires { ⌜ endBytes ≤ length (now rule) ⌝ }
+    ensures { λ r. ⌜ (r ≡ byteAt (now (rule .entry)) 0) × (r < 256) ⌝ }
+{
+    fault::byte_at(rule, 0)
+}
+
+// And the state that it enters.
+pub fn enters(rule: &[u8]) -> usize
+    requires { ⌜ endBytes ≤ length (now rule) ⌝ }
+    ensures { λ r. ⌜ (r ≡ byteAt (now (rule .entry)) 1) × (r < 256) ⌝ }
+{
+    fault::byte_at(rule, 1)
+}
+
+// Of a rule's record, the bytes for type m. No byte is copied.
+pub fn coefficients(rule: &[u8], m: usize) -> &[u8]
+    requires { ⌜ endBytes + typeBytes * (m + 1) ≤ length (now rule) ⌝ }
+    ensures { λ r. ⌜ (now r ≡ coefficientsOf (now (rule .entry)) m) × (length (now r) ≡ typeBytes) ⌝ }
+{
+    let at = END_BYTES + TYPE_BYTES * m;
+    let end = at + TYPE_BYTES;
+    &rule[at..end]
 }
 
 // 6

@@ -15,11 +15,11 @@ use borrow.Author.Tests.{ltb-true, ltb-false, lt-ltb, le-ltb}
 use Rattle.threshold.specs.Threshold.{signedByte}
 
 -- what the machine reads back from the bits of a signed number, and of an unsigned one that is small enough
-pub back : (z : ℤ) → mag z < 2 ^ 63 → toZ w64 (ofZ w64 z) ≡ z
-back z h = toZ-ofZ (record { sfits = h })
+pub bits-back : (z : ℤ) → mag z < 2 ^ 63 → toZ w64 (ofZ w64 z) ≡ z
+bits-back z h = toZ-ofZ (record { sfits = h })
 
 pub small : (n : ℕ) → n < 2 ^ 63 → toZ w64 n ≡ pos n
-small n h = back (pos n) h
+small n h = bits-back (pos n) h
 
 mag-sub : (a b : ℕ) → mag (subℕ a b) ≤ a + b
 mag-sub a b = go (ltb a b) refl
@@ -43,9 +43,9 @@ mag-mul (pos a) n A N ha hn = mul-le-mul (omega arith) hn
 mag-mul (negsuc a) n A N ha hn = le-trans (mag-neg (suc a * n)) (mul-le-mul ha hn)
 
 -- a byte moved up by 128, cut to eight bits and moved down again
-pub turned : (x : ℕ) → x < 256 → pos ((x + 128) % 256) -ℤ pos 128 ≡ signedByte x
+pub turned-byte : (x : ℕ) → x < 256 → pos ((x + 128) % 256) -ℤ pos 128 ≡ signedByte x
 unfolding signedByte
-turned x h = go (decLt x 128)
+turned-byte x h = go (decLt x 128)
   where
     go : Dec (x < 128) → pos ((x + 128) % 256) -ℤ pos 128 ≡ signedByte x
     go (yes l) = let e : (x + 128) % 256 ≡ x + 128 = omega arith in rw (e, le-ltb (x + 128) 128 (omega arith), lt-ltb x 128 l) (ap pos (omega arith))

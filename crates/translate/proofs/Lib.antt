@@ -1,8 +1,7 @@
-pub mod RecordLaws
 pub mod StepLaws
 pub mod LoopLaws
-pub mod ReadLaws
 pub mod WriteLaws
+pub mod ReadLaws
 pub mod EntryLaws
 pub mod RewrittenLaws
 pub mod BoundLaws

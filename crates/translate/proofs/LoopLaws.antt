@@ -1,5 +1,5 @@
--- What the loops over the records keep, into a coarser and into a finer form; and those over the forms.
-use mathlib.Core.Path.{_≡_, refl, sym, ap, _∙_, subst⁻¹}
+-- What the loops over the records keep, to a coarser and to a finer level.
+use mathlib.Core.Path.{_≡_, refl, sym, ap, _∙_, subst, subst⁻¹}
 use mathlib.Core.List.{List, [], _∷_, map}
 use Prim.Native.Nat.{ℕ, zero, suc, _+_, _*_, _≤_, _<_}
 use native.Mathlib.Nat.{not-suc-le-zero, le-of-suc-le-suc}
@@ -9,21 +9,26 @@ use lib.ListN.{length, set, drop, length-map}
 use lib.Seq.{drop-cons}
 use Rattle.paper.specs.Paper.{Design, Step}
 use Rattle.paper.specs.Step.{stepFault, stepped}
-use Rattle.paper.specs.Run.{stepsIn, Ran, run, noStep, stepAt}
+use Rattle.paper.specs.Machine.{followAll}
+use Rattle.paper.specs.Run.{Ran, run, noStep, stepAt}
 use Rattle.paper.proofs.StepLaws.{length-stepped}
-use Rattle.paper.proofs.RunLaws.{length-steps, Running, running-starts, running-goes, running-stops}
+use Rattle.paper.proofs.RunLaws.{Running, running-starts, running-goes, running-stops}
 use Rattle.agree.specs.Translation.{withSource, tagBy, lowest, lowAll}
-use Rattle.engine.specs.Design.{recordAt}
-use Rattle.translate.specs.Written.{bytesOf}
-use Rattle.translate.proofs.RecordLaws.{Partly, partly-none, partly-at, partly-more, partly-all}
-use Rattle.translate.proofs.StepLaws.{tag-keeps, low-keeps}
+use Rattle.schedule.specs.Records.{recordAt, stepsIn, bytesOf}
+use Rattle.schedule.proofs.RecordLaws.{length-steps, Partly, partly-none, partly-at, partly-more, partly-all}
+use Rattle.words.specs.declared.Sizes.{Sizes}
+use Rattle.rules.specs.Kept.{ByEnds}
+use Rattle.step.specs.Step.{Formed}
+use Rattle.step.proofs.StepLaws.{formed-by}
+use Rattle.translate.specs.Facts.{lowIn, RunsLow, LowersTo}
+use Rattle.translate.proofs.StepLaws.{tag-keeps, low-keeps, low-sized}
 
 map-at : (f : Step → Step) (ss : List Step) (i : ℕ) → i < length ss → stepAt (map f ss) i ≡ f (stepAt ss i)
 map-at f [] i h = absurd (not-suc-le-zero h)
 map-at f (s ∷ ss) zero h = refl
 map-at f (s ∷ ss) (suc i) h = map-at f ss i (le-of-suc-le-suc h)
 
--- ---- into a coarser form
+-- ---- to a coarser level
 abbrev pub Tags : ℕ → ℕ → ℕ → List ℕ → ℕ → List ℕ → Type 0
 Tags j c n steps₀ i steps = Partly n (stepsIn steps₀) (map (tagBy j c) (stepsIn steps₀)) i steps
 
@@ -51,16 +56,16 @@ module _ (j c n : ℕ) (steps₀ : List ℕ) (l : length steps₀ ≡ n * 4) whe
     pub tags-all : i ≤ n → n ≤ i → steps ≡ bytesOf (map (tagBy j c) old)
     tags-all a b = partly-all n old (map (tagBy j c) old) many new-many T a b
 
--- ---- into a finer form
+-- ---- to a finer level
 pub low-long : (j : ℕ) (d : Design) (w : List ℕ) (ss : List Step) → length (lowAll j d w ss) ≡ length ss
-unfolding lowAll
+unfolding followAll
 low-long j d w [] = refl
 low-long j d w (s ∷ ss) = ap suc (low-long j d (stepped j d w (lowest j d w s)) ss)
 
 -- the rest of a schedule, from the words after its first i steps
 module _ (j : ℕ) (d : Design) (w : List ℕ) (new ss : List Step) (i : ℕ) (h : i < length ss) (k : i < length new) (r : drop i new ≡ lowAll j d w (drop i ss)) where
   heads : stepAt new i ∷ drop (suc i) new ≡ lowest j d w (stepAt ss i) ∷ lowAll j d (stepped j d w (lowest j d w (stepAt ss i))) (drop (suc i) ss)
-  unfolding lowAll
+  unfolding followAll
   heads = sym (drop-cons new i noStep k) ∙ r ∙ ap (lowAll j d w) (drop-cons ss i noStep h)
 
   rest-head : stepAt new i ≡ lowest j d w (stepAt ss i)
@@ -121,3 +126,29 @@ module _ (j : ℕ) (d : Design) (w₀ : List ℕ) (n : ℕ) (steps₀ : List ℕ
 
   pub along-all : {i : ℕ} {w steps : List ℕ} → Along j d w₀ n steps₀ i w steps → i ≤ n → n ≤ i → steps ≡ bytesOf low
   along-all A a b = partly-all n was low was-many low-many (A .partly) a b
+
+-- ---- for every design that the kept ends stand for
+abbrev pub Alongs : Sizes → List ℕ → List ℕ → ℕ → List ℕ → ℕ → List ℕ → List ℕ → Type 0
+Alongs s ends w₀ n steps₀ i w steps = (L : RunsLow s ends w₀ steps₀) → Along (s .level) (L .design) w₀ n steps₀ i w steps
+
+module _ (s : Sizes) (ends w₀ : List ℕ) (n : ℕ) (steps₀ : List ℕ) (l : length steps₀ ≡ n * 4) where
+  abbrev Here : ℕ → List ℕ → List ℕ → Type 0
+  Here i w steps = Alongs s ends w₀ n steps₀ i w steps
+
+  pub alongs-none : Here 0 w₀ steps₀
+  alongs-none L = along-none (s .level) (L .design) w₀ n steps₀ l
+
+  module _ {i : ℕ} {w steps : List ℕ} (A : Here i w steps) (h : i < n) where
+    pub alongs-formed : RunsLow s ends w₀ steps₀ → Formed s (lowIn s w (recordAt steps i))
+    alongs-formed L =
+        let x = recordAt steps i in
+        subst (Formed s) (low-sized (L .design) s (L .kept .numbers) w x)
+        (formed-by (L .design) s (L .kept .numbers) w (lowest (s .level) (L .design) w x) (along-accepts (s .level) (L .design) w₀ n steps₀ l (L .runs) (A L) h))
+
+    pub alongs-more : {v u : List ℕ} → ByEnds s ends (λ d. v ≡ stepped (s .level) d w (lowIn s w (recordAt steps i))) → u ≡ set steps (i * 4 + 3) (lowIn s w (recordAt steps i) .source) → Here (i + 1) v u
+    alongs-more f g L =
+        let e = sym (low-sized (L .design) s (L .kept .numbers) w (recordAt steps i)) in
+        along-more (s .level) (L .design) w₀ n steps₀ l (L .runs) (A L) h (f (L .design) (L .kept) ∙ ap (stepped (s .level) (L .design) w) e) (g ∙ ap (λ (x : Step). set steps (i * 4 + 3) (x .source)) e)
+
+  pub alongs-all : {i : ℕ} {w steps : List ℕ} → Here i w steps → i ≤ n → n ≤ i → LowersTo s ends w₀ steps₀ steps
+  alongs-all A a b L = along-all (s .level) (L .design) w₀ n steps₀ l (A L) a b

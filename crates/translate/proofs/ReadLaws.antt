@@ -1,6 +1,6 @@
--- A bundle that is read gives what the agreement of the forms asks for: its table forgets nothing, and nobody has sent at its start. So
--- what runs in one form runs, with the lowest sources, in the form before it.
-use mathlib.Core.Path.{_≡_, refl, sym, ap, ap₂, _∙_, subst⁻¹}
+-- A bundle that is read gives what the agreement of the levels asks for: its table forgets nothing, and nobody has sent at its start. So
+-- what runs at one level runs, with the lowest sources, at the level before it.
+use mathlib.Core.Path.{_≡_, refl, sym, ap, _∙_, subst, subst⁻¹}
 use mathlib.Core.Bool.{Bool, true, false, not, _&&_, true≢false}
 use mathlib.Core.List.{List}
 use Prim.Native.Nat.{ℕ, suc, _-_, _≤_, _<_}
@@ -9,25 +9,26 @@ use native.Mathlib.Omega.{arith}
 use lib.ListN.{length, getD}
 use Rattle.senders.specs.Set.{mem}
 use Rattle.senders.proofs.SetLaws.{set-laws}
-use Rattle.bundle.specs.Bundle.{formOf, startsOf, stepsOf}
+use Rattle.bundle.specs.Bundle.{startsOf, stepsOf, tableInUse}
 use Rattle.bundle.specs.Facts.{Read}
 use Rattle.paper.specs.Paper.{Design, Step}
 use Rattle.paper.specs.Words.{start}
 use Rattle.paper.specs.Form.{wide}
-use Rattle.paper.specs.Run.{stepsIn, run}
+use Rattle.paper.specs.Run.{run}
 use Rattle.agree.specs.Translation.{lowAll, finer}
-use Rattle.agree.specs.Picture.{Kept, Pictured}
+use Rattle.agree.specs.Picture.{Remembers, Pictured}
 use Rattle.agree.proofs.Runs.{start-pictured, backward-run}
+use Rattle.schedule.specs.Records.{stepsIn, bytesOf, Records}
+use Rattle.schedule.proofs.RecordLaws.{steps-bytes, bytes-again, bytes-many, records-kept}
 use Rattle.words.specs.declared.Sizes.{Sizes}
-use Rattle.engine.specs.Design.{sizesOf}
-use Rattle.rules.specs.Design.{designOf}
-use Rattle.engine.specs.Entry.{scheduleOf, ranWith}
-use Rattle.rules.specs.Facts.{Suits}
-use Rattle.words.specs.Facts.{Holds}
-use Rattle.engine.proofs.EntryLaws.{suits, starts-long, start-holds, steps-few}
-use Rattle.translate.specs.Written.{bytesOf, beginOf}
-use Rattle.translate.specs.Facts.{inForm, Records, RunsLow}
-use Rattle.translate.proofs.RecordLaws.{steps-bytes, bytes-again, bytes-many, records-kept}
+use Rattle.words.specs.Facts.{Bounded}
+use Rattle.rules.specs.Kept.{KeptEnds}
+use Rattle.engine.specs.Design.{sizesOf, designWith, designIn}
+use Rattle.engine.specs.Entry.{scheduleOf, startIn}
+use Rattle.engine.specs.Open.{Parts, Ready}
+use Rattle.engine.proofs.EntryLaws.{whole-steps}
+use Rattle.translate.specs.Written.{beginOf}
+use Rattle.translate.specs.Facts.{atLevel, Fair, Runs, RefinesTo, RunsLow, LowersTo}
 use Rattle.translate.proofs.LoopLaws.{low-long}
 
 not-missing : (x y : Bool) → x && not y ≡ false → x ≡ true → y ≡ true
@@ -35,93 +36,104 @@ not-missing x true e h = refl
 not-missing true false e h = absurd (true≢false e)
 not-missing false false e h = absurd (true≢false (sym h))
 
--- sizes in a form are in their own
-pub in-own : (k : ℕ) {s : Sizes} (z : Sizes) → s ≡ inForm k z → s ≡ inForm (s .form) z
-in-own k z e = e ∙ sym (ap (λ (x : Sizes). inForm (x .form) z) e)
-
--- what the loop over the forms keeps, down from the bundle's own: its steps in form i
-pub record Refined (t b : List ℕ) (i : ℕ) (steps : List ℕ) : Type 0 where
-  pub runs : run i (designOf (sizesOf t b) t) (beginOf t b i) (stepsIn steps) .refusal ≡ 0
-  pub holds : steps ≡ bytesOf (finer (formOf b - i) i (designOf (sizesOf t b) t) (beginOf t b) (scheduleOf b))
-  pub long : length steps ≡ length (stepsOf b)
-
+-- ---- a bundle that is read, with its table
 module _ (t b : List ℕ) (R : Read t b) where
-  abbrev d : Design
-  d = designOf (sizesOf t b) t
+  abbrev d₀ : Design
+  d₀ = designWith t b
 
-  keeps : (r m : ℕ) → r < d .rules → m < d .types → d .hasSent (d .from r) m ≡ true → d .hasSent (d .to r) m ≡ true
+  keeps : (r m : ℕ) → r < d₀ .rules → m < d₀ .types → d₀ .hasSent (d₀ .from r) m ≡ true → d₀ .hasSent (d₀ .to r) m ≡ true
   keeps r m hr hm h = not-missing _ _ (R .formed .rule r hr .keeps m hm) h
 
-  pub quiet : (p m : ℕ) → p < d .boards → m < d .types → d .hasSent (getD (startsOf b) p 0) m ≡ false
+  pub quiet : (p m : ℕ) → p < d₀ .boards → m < d₀ .types → d₀ .hasSent (getD (startsOf b) p 0) m ≡ false
   quiet p m hp hm =
       let B = R .start p hp in
       ap (λ (S : ℕ). mem S m) (R .formed .state (getD (startsOf b) p 0) (B .state) .fresh (B .initial)) ∙ set-laws .empty m
 
-  pub kept : Kept d
+  pub kept : Remembers d₀
   kept = record { few = le-trans (R .formed .sized .few-types) (omega arith); keeps = keeps }
 
-  pub begins : (j : ℕ) → Pictured j d (beginOf t b j) (beginOf t b (suc j))
-  begins = start-pictured d (startsOf b) (R .parted .starts-long) quiet
+  pub begins : (j : ℕ) → Pictured j d₀ (beginOf (sizesOf t b) b j) (beginOf (sizesOf t b) b (suc j))
+  begins = start-pictured d₀ (startsOf b) (R .parted .starts-long) quiet
 
-  -- ---- in any form: what stepping counts on
-  module _ {s : Sizes} (e : s ≡ inForm (s .form) (sizesOf t b)) where
-    pub in-suits : Suits s t
-    in-suits = let S = suits t b R refl in subst⁻¹ (λ (x : Sizes). Suits x t) e (record {
-      bounded = record { boards = S .bounded .boards; types = S .bounded .types; t = S .bounded .t; wide = refl; row = refl };
-      formed = S .formed;
-      types = refl;
-      rules = refl;
-    })
+abbrev pub fair-by : (b standing : List ℕ) {s : Sizes} {ends leasts : List ℕ} → Ready b standing s ends leasts → Fair s ends leasts b
+fair-by b standing R = record { design = designIn b standing; kept = R .kept; remembers = kept (tableInUse b standing) b (R .read); fresh = quiet (tableInUse b standing) b (R .read) }
 
-    module _ {ss : List ℕ} (f : ss ≡ startsOf b) where
-      pub in-starts : length ss ≡ s .correct
-      in-starts = starts-long t b R (ap (λ (x : Sizes). x .correct) e) f
+-- ---- at another level: the same numbers, parts and ends
+module _ (k : ℕ) (s : Sizes) where
+  pub level-bounded : Bounded s → Bounded (atLevel k s)
+  level-bounded B = record { boards = B .boards; types = B .types; rules = B .rules; wide = refl; row = refl }
 
-      module _ {w : List ℕ} (g : w ≡ start (s .types) (wide (s .form)) ss) where
-        pub in-start : w ≡ beginOf t b (s .form)
-        in-start = g ∙ ap₂ (λ (n : ℕ) (x : List ℕ). start n (wide (s .form)) x) (ap (λ (x : Sizes). x .types) e) f
+  pub level-parts : {b : List ℕ} → Parts s b → Parts (atLevel k s) b
+  level-parts P = record { trailed = P .trailed; parted = P .parted; correct = P .correct }
 
-        pub in-holds : Holds s 16 w
-        in-holds = start-holds t b R (ap (λ (x : Sizes). x .correct) e) f g
+  pub level-kept : {d : Design} {ends : List ℕ} → KeptEnds d s ends → KeptEnds d (atLevel k s) ends
+  level-kept K = record {
+    long = K .long;
+    numbers = record { boards = K .numbers .boards; faulty = K .numbers .faulty; types = K .numbers .types; rules = K .numbers .rules };
+    from = K .from;
+    to = K .to;
+    sends = K .sends;
+    one-new = K .one-new;
+  }
 
-  -- ---- the loop over the forms
+-- ---- what the loop over the levels keeps, down from the bundle's own: its steps at level i
+pub record Refined (s : Sizes) (b : List ℕ) (d : Design) (i : ℕ) (steps : List ℕ) : Type 0 where
+  pub runs : run i d (beginOf s b i) (stepsIn steps) .refusal ≡ 0
+  pub holds : steps ≡ bytesOf (finer (s .level - i) i d (beginOf s b) (scheduleOf b))
+  pub long : length steps ≡ length (stepsOf b)
+
+abbrev pub Refinings : Sizes → List ℕ → List ℕ → ℕ → List ℕ → Type 0
+Refinings s ends b i steps = (T : Runs s ends b) → Refined s b (T .design) i steps
+
+module _ (s : Sizes) (ends b : List ℕ) (P : Parts s b) where
   own-records : Records (stepsOf b)
-  own-records = let q = steps-few t b R refl in record { few = q .0; whole = q .1 }
+  own-records = whole-steps s b P refl
 
-  pub refined-records : {i : ℕ} {steps : List ℕ} → Refined t b i steps → Records steps
+  pub refined-records : {d : Design} {i : ℕ} {steps : List ℕ} → Refined s b d i steps → Records steps
   refined-records F = records-kept own-records (F .long)
 
-  pub refined-none : {k : ℕ} {steps : List ℕ} → k ≡ formOf b → steps ≡ stepsOf b → ranWith t b .refusal ≡ 0 → Refined t b k steps
-  unfolding ranWith finer
-  refined-none {k} {steps} e f z =
-      let o : formOf b - formOf b ≡ 0 = omega arith in
-      subst⁻¹ (λ (x : ℕ). Refined t b x steps) e (subst⁻¹ (Refined t b (formOf b)) f (record { runs = z; holds = rw o (sym (bytes-again (stepsOf b) own-records)); long = refl }))
+  pub refined-none : {steps : List ℕ} → steps ≡ stepsOf b → Refinings s ends b (s .level) steps
+  unfolding finer
+  refined-none {steps} f T =
+      let o : s .level - s .level ≡ 0 = omega arith in
+      subst⁻¹ (Refined s b (T .design) (s .level)) f (record { runs = T .runs; holds = rw o (sym (bytes-again (stepsOf b) own-records)); long = refl })
 
-  module _ {steps : List ℕ} (j i : ℕ) (e : i ≡ suc j) (l : i ≤ formOf b) (F : Refined t b i steps) where
-    low-runs : run j d (beginOf t b j) (lowAll j d (beginOf t b j) (stepsIn steps)) .refusal ≡ 0
-    low-runs = backward-run j d kept (beginOf t b j) (beginOf t b (suc j)) (stepsIn steps) (begins j) (ap (λ (x : ℕ). run x d (beginOf t b x) (stepsIn steps) .refusal) (sym e) ∙ F .runs) .accepted
+  module _ {steps : List ℕ} (j i : ℕ) (e : i ≡ suc j) (l : i ≤ s .level) (F : Refinings s ends b i steps) where
+    pictured : (T : Runs s ends b) → Pictured j (T .design) (beginOf s b j) (beginOf s b (suc j))
+    pictured T =
+        let d = T .design in
+        let N = T .kept .numbers in
+        subst (λ (n : ℕ). Pictured j d (start n (wide j) (startsOf b)) (start n (wide (suc j)) (startsOf b))) (N .types)
+        (start-pictured d (startsOf b) (P .parted .starts-long ∙ sym (P .correct) ∙ sym (N .boards)) (T .fresh) j)
 
-    pub refined-runs : {s : Sizes} → s ≡ inForm j (sizesOf t b) → RunsLow s t (beginOf t b (s .form)) steps
-    refined-runs {s} f = subst⁻¹ (λ (x : Sizes). RunsLow x t (beginOf t b (x .form)) steps) f low-runs
+    low-runs : (T : Runs s ends b) → run j (T .design) (beginOf s b j) (lowAll j (T .design) (beginOf s b j) (stepsIn steps)) .refusal ≡ 0
+    low-runs T =
+        let d = T .design in
+        backward-run j d (T .remembers) (beginOf s b j) (beginOf s b (suc j)) (stepsIn steps) (pictured T) (ap (λ (x : ℕ). run x d (beginOf s b x) (stepsIn steps) .refusal) (sym e) ∙ F T .runs) .accepted
 
-    pub refined-more : {s : Sizes} {u : List ℕ} → s ≡ inForm j (sizesOf t b) → u ≡ bytesOf (lowAll (s .form) (designOf s t) (beginOf t b (s .form)) (stepsIn steps)) → Refined t b j u
+    low-at : Runs s ends b → RunsLow (atLevel j s) ends (startIn (atLevel j s) b) steps
+    low-at T = record { design = T .design; kept = level-kept j s (T .kept); runs = low-runs T }
+
+    pub refined-runs : {z : Sizes} → z ≡ atLevel j s → Runs s ends b → RunsLow z ends (startIn z b) steps
+    refined-runs f T = subst⁻¹ (λ (x : Sizes). RunsLow x ends (startIn x b) steps) f (low-at T)
+
+    pub refined-more : {z : Sizes} {u : List ℕ} → z ≡ atLevel j s → LowersTo z ends (startIn z b) steps u → Refinings s ends b j u
     unfolding finer
-    refined-more {s} {u} f h =
-        let low = lowAll j d (beginOf t b j) (stepsIn steps) in
-        let g : u ≡ bytesOf low = h ∙ ap (λ (x : Sizes). bytesOf (lowAll (x .form) (designOf x t) (beginOf t b (x .form)) (stepsIn steps))) f in
-        let n : formOf b - j ≡ suc (formOf b - suc j) = omega arith in
-        let q : stepsIn steps ≡ finer (formOf b - suc j) (suc j) d (beginOf t b) (scheduleOf b) =
-        ap stepsIn (F .holds) ∙ steps-bytes _ ∙ ap (λ (x : ℕ). finer (formOf b - x) x d (beginOf t b) (scheduleOf b)) e in
+    refined-more {z} {u} f h T =
+        let d = T .design in
+        let low = lowAll j d (beginOf s b j) (stepsIn steps) in
+        let g : u ≡ bytesOf low = subst (λ (x : Sizes). LowersTo x ends (startIn x b) steps u) f h (record { design = d; kept = level-kept j s (T .kept); runs = low-runs T }) in
+        let n : s .level - j ≡ suc (s .level - suc j) = omega arith in
+        let q : stepsIn steps ≡ finer (s .level - suc j) (suc j) d (beginOf s b) (scheduleOf b) =
+        ap stepsIn (F T .holds) ∙ steps-bytes _ ∙ ap (λ (x : ℕ). finer (s .level - x) x d (beginOf s b) (scheduleOf b)) e in
         record {
-          runs = ap (λ (x : List ℕ). run j d (beginOf t b j) (stepsIn x) .refusal) g ∙ ap (λ (x : List Step). run j d (beginOf t b j) x .refusal) (steps-bytes low) ∙ low-runs;
-          holds = g ∙ ap (λ (x : List Step). bytesOf (lowAll j d (beginOf t b j) x)) q ∙ sym (ap (λ (x : ℕ). bytesOf (finer x j d (beginOf t b) (scheduleOf b))) n);
-          long = ap length g ∙ bytes-many steps low (refined-records F) (low-long j d (beginOf t b j) (stepsIn steps)) ∙ F .long;
+          runs = ap (λ (x : List ℕ). run j d (beginOf s b j) (stepsIn x) .refusal) g ∙ ap (λ (x : List Step). run j d (beginOf s b j) x .refusal) (steps-bytes low) ∙ low-runs T;
+          holds = g ∙ ap (λ (x : List Step). bytesOf (lowAll j d (beginOf s b j) x)) q ∙ sym (ap (λ (x : ℕ). bytesOf (finer x j d (beginOf s b) (scheduleOf b))) n);
+          long = ap length g ∙ bytes-many steps low (refined-records (F T)) (low-long j d (beginOf s b j) (stepsIn steps)) ∙ F T .long;
         }
 
-  -- at the form that is asked for
-  pub refined-all : {i form : ℕ} {s : Sizes} {steps steps₀ : List ℕ} → s ≡ sizesOf t b → steps₀ ≡ stepsOf b → form ≤ i → i ≤ form → Refined t b i steps
-      → steps ≡ bytesOf (finer (s .form - form) form (designOf s t) (beginOf t b) (stepsIn steps₀))
-  refined-all {i} {form} {s} {steps} {steps₀} e f l m F =
-      let z : i ≡ form = omega arith in
-      F .holds ∙ ap (λ (x : ℕ). bytesOf (finer (formOf b - x) x d (beginOf t b) (scheduleOf b))) z
-      ∙ sym (ap₂ (λ (x : Sizes) (y : List ℕ). bytesOf (finer (x .form - form) form (designOf x t) (beginOf t b) (stepsIn y))) e f)
+  -- at the level that is asked for
+  pub refined-all : {i level : ℕ} {steps : List ℕ} → level ≤ i → i ≤ level → Refinings s ends b i steps → RefinesTo s ends b level steps
+  refined-all {i} {level} l m F T =
+      let z : i ≡ level = omega arith in
+      F T .holds ∙ ap (λ (x : ℕ). bytesOf (finer (s .level - x) x (T .design) (beginOf s b) (scheduleOf b))) z

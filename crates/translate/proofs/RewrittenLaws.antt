@@ -16,10 +16,10 @@ use Rattle.bundle.specs.Bundle.{stepDistance, startDistance, nOf, tOf, fOf, for
 use Rattle.bundle.specs.Refusals.{noTrailer, outOfBundle, notAdmitted, stepsOff, scheduleFault, faultWith, readFault}
 use Rattle.bundle.specs.Facts.{Read}
 use Rattle.paper.specs.Paper.{Step}
-use Rattle.paper.specs.Run.{stepsIn}
+use Rattle.schedule.specs.Records.{stepsIn, bytesOf}
 use Rattle.engine.specs.Entry.{scheduleOf}
-use Rattle.translate.specs.Written.{bytesOf, rewritten}
-use Rattle.translate.proofs.RecordLaws.{steps-bytes, bytes-steps, length-bytes}
+use Rattle.translate.specs.Written.{rewritten}
+use Rattle.schedule.proofs.RecordLaws.{steps-bytes, bytes-steps, length-bytes}
 use Rattle.translate.proofs.WriteLaws.{at-inside, steps-many, rewritten-long}
 
 -- a write past the end of a list is a write into what follows it
@@ -41,19 +41,19 @@ module _ (t b : List ℕ) (R : Read t b) where
   trailer = drop (trailerOf b) b
 
   front-long : length front ≡ stepsAt b
-  front-long = length-take-le (stepsAt b) b (omega (arith, at-inside t b R))
+  front-long = length-take-le (stepsAt b) b (omega (arith, at-inside b (R .trailed) (R .parted)))
 
   trailer-long : length trailer ≡ 8
   trailer-long = length-drop (trailerOf b) b ∙ omega (arith, R .trailed .long)
 
   module _ (ss : List Step) (h : length ss ≡ length (scheduleOf b)) where
     bytes-long : length (bytesOf ss) ≡ stepDistance b
-    bytes-long = length-bytes ss ∙ ap (λ (n : ℕ). n * 4) h ∙ steps-many t b R
+    bytes-long = length-bytes ss ∙ ap (λ (n : ℕ). n * 4) h ∙ steps-many b (R .trailed) (R .parted)
 
     -- the last byte is the last one of what follows the steps
     last : (y : List ℕ) (k : ℕ) → set (front ++ (bytesOf ss ++ y)) (length b - 1) k ≡ front ++ (bytesOf ss ++ set y 7 k)
     last y k =
-        let e : length b - 1 ≡ length front + (length (bytesOf ss) + 7) = omega (arith, front-long, bytes-long, at-inside t b R) in
+        let e : length b - 1 ≡ length front + (length (bytesOf ss) + 7) = omega (arith, front-long, bytes-long, at-inside b (R .trailed) (R .parted)) in
         ap (λ (i : ℕ). set (front ++ (bytesOf ss ++ y)) i k) e ∙ set-append-add front (bytesOf ss ++ y) (length (bytesOf ss) + 7) k
         ∙ ap (λ (z : List ℕ). front ++ z) (set-append-add (bytesOf ss) y 7 k)
 
@@ -67,7 +67,7 @@ module _ (t b : List ℕ) (R : Read t b) where
     parts = last ss h trailer k
 
     long : length x ≡ length b
-    long = rewritten-long t b R ss k h
+    long = rewritten-long b (R .trailed) (R .parted) ss k h
 
     take-front : (n : ℕ) → n ≤ stepsAt b → take n x ≡ take n b
     take-front n l = ap (take n) parts ∙ take-append-le n front _ (rw front-long l) ∙ take-take n (stepsAt b) b l
@@ -77,7 +77,7 @@ module _ (t b : List ℕ) (R : Read t b) where
 
     trailer-at : (i : ℕ) → byteAt x (trailerOf x + i) ≡ byteAt (set trailer 7 k) i
     trailer-at i =
-        let e : trailerOf x + i ≡ length front + (length (bytesOf ss) + i) = omega (arith, long, front-long, bytes-long ss h, at-inside t b R) in
+        let e : trailerOf x + i ≡ length front + (length (bytesOf ss) + i) = omega (arith, long, front-long, bytes-long ss h, at-inside b (R .trailed) (R .parted)) in
         ap₂ (λ (y : List ℕ) (j : ℕ). byteAt y j) parts e ∙ getD-append-add front _ (length (bytesOf ss) + i) 0 ∙ getD-append-add (bytesOf ss) _ i 0
 
     kept-at : (i : ℕ) → i ≢ 7 → byteAt x (trailerOf x + i) ≡ byteAt b (trailerOf b + i)
@@ -145,7 +145,7 @@ module _ (t b : List ℕ) (R : Read t b) where
     -- ---- written once more, the last time counts
     drop-trailer : drop (trailerOf x) x ≡ set trailer 7 k
     drop-trailer =
-        let e : trailerOf x ≡ stepsAt b + stepDistance b = omega (arith, long, at-inside t b R) in
+        let e : trailerOf x ≡ stepsAt b + stepDistance b = omega (arith, long, at-inside b (R .trailed) (R .parted)) in
         ap (λ (i : ℕ). drop i x) e ∙ sym (drop-drop (stepDistance b) (stepsAt b) x) ∙ ap (drop (stepDistance b)) drop-front ∙ drop-at (bytesOf ss) _ (stepDistance b) (bytes-long ss h)
 
     pub rewritten-again : (ss′ : List Step) (k′ : ℕ) → length ss′ ≡ length (scheduleOf b) → rewritten x ss′ k′ ≡ rewritten b ss′ k′
@@ -161,7 +161,7 @@ module _ (t b : List ℕ) (R : Read t b) where
   unfolding stepsOf
   rewritten-own =
       let l : length (stepsOf b) ≡ stepDistance b / 4 * 4 = omega (arith, R .parted .steps-long, R .parted .whole-steps) in
-      let e : trailerOf b ≡ stepsAt b + stepDistance b = omega (arith, at-inside t b R) in
+      let e : trailerOf b ≡ stepsAt b + stepDistance b = omega (arith, at-inside b (R .trailed) (R .parted)) in
       let f : set trailer 7 (formOf b) ≡ drop (stepDistance b) (drop (stepsAt b) b) =
       ap (set trailer 7) (sym (getD-drop (trailerOf b) b 7 0)) ∙ set-getD trailer 7 0 ∙ ap (λ (i : ℕ). drop i b) e ∙ sym (drop-drop (stepDistance b) (stepsAt b) b) in
       parts (scheduleOf b) (formOf b) refl ∙ ap₂ (λ (y z : List ℕ). front ++ (y ++ z)) (bytes-steps (stepDistance b / 4) (stepsOf b) l) f

@@ -7,22 +7,17 @@ use lib.ListN.{length, set, take, drop, length-append, length-drop, length-set, 
 use lib.Seq.{length-take-le}
 use borrow.Rule.Slice.PartMut.{putMid, post-is}
 use Rattle.fault.specs.Bytes.{trailerOf}
-use Rattle.bundle.specs.Bundle.{stepDistance, formOf, stepsAt, stepsOf}
-use Rattle.bundle.specs.Facts.{Read}
 use Rattle.paper.specs.Paper.{Design, Step}
-use Rattle.paper.specs.Run.{stepsIn}
-use Rattle.paper.proofs.RunLaws.{length-steps}
-use Rattle.agree.specs.Translation.{tagBy, coarser, finer, moved}
-use Rattle.words.specs.declared.Sizes.{Sizes}
-use Rattle.engine.specs.Design.{sizesOf}
-use Rattle.rules.specs.Design.{designOf}
+use Rattle.bundle.specs.Bundle.{stepDistance, stepsAt, stepsOf}
+use Rattle.bundle.specs.Facts.{Trailed, Parted}
+use Rattle.schedule.specs.Records.{stepsIn, bytesOf, Records}
+use Rattle.schedule.proofs.RecordLaws.{length-steps, steps-bytes, length-bytes, bytes-again, bytes-many, records-kept}
 use Rattle.engine.specs.Entry.{scheduleOf}
-use Rattle.translate.specs.Written.{bytesOf, rewritten, beginOf, translationWith}
-use Rattle.translate.specs.Facts.{Records}
-use Rattle.translate.proofs.RecordLaws.{steps-bytes, length-bytes, bytes-again, bytes-many, records-kept}
+use Rattle.translate.specs.Written.{rewritten}
 use Rattle.translate.proofs.LoopLaws.{low-long}
+use Rattle.agree.specs.Translation.{tagBy, coarser, finer, moved}
 
--- ---- the schedule in another form: as many steps
+-- ---- the schedule at another level: as many steps
 coarser-long : (n k c : ℕ) (ss : List Step) → length (coarser n k c ss) ≡ length ss
 unfolding coarser
 coarser-long zero k c ss = refl
@@ -37,7 +32,7 @@ pub moved-long : (k i : ℕ) (d : Design) (begin : ℕ → List ℕ) (ss : List 
 unfolding moved
 moved-long k i d begin ss = coarser-long (i - k) k (d .boards) (finer (k - i) i d begin ss) ∙ finer-long (k - i) i d begin ss
 
--- ---- the loop over the forms, up from form k: the steps in form j
+-- ---- the loop over the levels, up from level k: the steps at level j
 pub record Coarsened (k c : ℕ) (steps₀ : List ℕ) (j : ℕ) (steps : List ℕ) : Type 0 where
   pub holds : steps ≡ bytesOf (coarser (j - k) k c (stepsIn steps₀))
   pub long : length steps ≡ length steps₀
@@ -63,30 +58,24 @@ pub coarsened-all : {k c j form : ℕ} {steps₀ steps : List ℕ} → Coarsened
 coarsened-all {k} {c} {j} {form} {steps₀} F l m = let z : j ≡ form = omega arith in F .holds ∙ ap (λ (i : ℕ). bytesOf (coarser (i - k) k c (stepsIn steps₀))) z
 
 -- ---- a bundle with other steps, as many as its own
-module _ (t b : List ℕ) (R : Read t b) where
+module _ (b : List ℕ) (T : Trailed b) (P : Parted b) where
   pub at-inside : stepsAt b + stepDistance b + 8 ≡ length b
-  at-inside = omega (arith, R .parted .steps-last, R .trailed .long)
+  at-inside = omega (arith, P .steps-last, T .long)
 
   pub steps-many : length (scheduleOf b) * 4 ≡ stepDistance b
   steps-many =
-      let l : length (stepsOf b) ≡ stepDistance b / 4 * 4 = omega (arith, R .parted .steps-long, R .parted .whole-steps) in
+      let l : length (stepsOf b) ≡ stepDistance b / 4 * 4 = omega (arith, P .steps-long, P .whole-steps) in
       let n : length (scheduleOf b) ≡ stepDistance b / 4 = length-steps (stepDistance b / 4) (stepsOf b) l in
-      omega (arith, R .parted .whole-steps)
+      omega (arith, P .whole-steps)
 
   pub rewritten-long : (ss : List Step) (k : ℕ) → length ss ≡ length (scheduleOf b) → length (rewritten b ss k) ≡ length b
   unfolding rewritten
   rewritten-long ss k h =
       let a : length (take (stepsAt b) b) ≡ stepsAt b = length-take-le (stepsAt b) b (omega (arith, at-inside)) in
       let e : length (bytesOf ss) ≡ stepDistance b = length-bytes ss ∙ ap (λ (n : ℕ). n * 4) h ∙ steps-many in
-      let q : length (drop (trailerOf b) b) ≡ 8 = length-drop (trailerOf b) b ∙ omega (arith, R .trailed .long) in
+      let q : length (drop (trailerOf b) b) ≡ 8 = length-drop (trailerOf b) b ∙ omega (arith, T .long) in
       length-set (take (stepsAt b) b ++ (bytesOf ss ++ drop (trailerOf b) b)) (length b - 1) k ∙ length-append (take (stepsAt b) b) (bytesOf ss ++ drop (trailerOf b) b)
       ∙ ap₂ (λ (x y : ℕ). x + y) a (length-append (bytesOf ss) (drop (trailerOf b) b) ∙ ap₂ (λ (x y : ℕ). x + y) e q) ∙ omega (arith, at-inside)
-
-  pub translation-long : (i : ℕ) → length (translationWith t b i) ≡ length b
-  unfolding translationWith
-  translation-long i =
-      let d = designOf (sizesOf t b) t in
-      rewritten-long (moved (formOf b) i d (beginOf t b) (scheduleOf b)) i (moved-long (formOf b) i d (beginOf t b) (scheduleOf b))
 
   -- ---- `write`, from what it has in hand: the copy o, and where the first step stands
   module _ {at : ℕ} {o : List ℕ} (e : at ≡ stepsAt b) (g : o ≡ b) where
@@ -94,12 +83,9 @@ module _ (t b : List ℕ) (R : Read t b) where
     unfolding stepsOf
     steps-part n h = rw (h, e, g)
 
-    pub all-written : {s : Sizes} {u : List ℕ} (k : ℕ) → s ≡ sizesOf t b
-        → u ≡ bytesOf (moved (s .form) k (designOf s t) (beginOf t b) (stepsIn (take (length b - 8 - at) (drop at o))))
-        → set (putMid at (length b - 8 - at) o u) (length b - 1) k ≡ translationWith t b k
-    unfolding rewritten translationWith
-    all-written {s} {u} k f h =
+    pub all-written : {u : List ℕ} (ss : List Step) (k : ℕ) → u ≡ bytesOf ss → set (putMid at (length b - 8 - at) o u) (length b - 1) k ≡ rewritten b ss k
+    unfolding rewritten
+    all-written {u} ss k h =
         let z : at ≤ length b - 8 = omega (arith, at-inside) in
-        let n : length b - 8 - at ≡ stepDistance b = omega (arith, at-inside) in
         let p : putMid at (length b - 8 - at) o u ≡ take at o ++ (u ++ drop (length b - 8) o) = ap (λ (x : List ℕ). take at o ++ (u ++ x)) (post-is at (length b - 8) o z) in
-        rw p (rw (h, steps-part (length b - 8 - at) n, f, g, e))
+        rw p (rw (h, g, e))

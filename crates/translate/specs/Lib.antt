@@ -1,3 +1,3 @@
 pub mod Written
-pub mod Facts
 pub mod Entry
+pub mod Facts

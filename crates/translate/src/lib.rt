@@ -2,28 +2,26 @@
 ghost use mathlib.Core.Path.{_≡_};
 ghost use mathlib.Core.Bool.{false, _&&_};
 ghost use mathlib.Core.List.{map};
-ghost use Prim.Native.Nat.{suc, _+_, _-_, _*_, _/_, _≤_, _<_};
+ghost use Prim.Native.Nat.{suc, _+_, _-_, _*_, _≤_, _<_};
 ghost use lib.Dec.{eqb};
 ghost use lib.ListN.{length, set};
 ghost use Rattle.senders.specs.Tally.{least};
-ghost use Rattle.fault.specs.Fault.{_if_else_};
 ghost use Rattle.bundle.specs.Bundle.{stepsOf};
-ghost use Rattle.bundle.specs.Facts.{Read};
 ghost use Rattle.paper.specs.Paper.{passing, column};
-ghost use Rattle.paper.specs.Step.{stepFault, stepped};
-ghost use Rattle.paper.specs.Run.{stepsIn};
-ghost use Rattle.agree.specs.Translation.{tagOf, tagBy, lowest, lowAll, coarser, finer, moved};
-ghost use Rattle.engine.specs.Design.{sizesOf, recordAt};
-ghost use Rattle.rules.specs.Design.{designOf};
+ghost use Rattle.paper.specs.Paper as paper;
+ghost use Rattle.paper.specs.Step.{stepped};
+ghost use Rattle.agree.specs.Translation.{tagOf, tagBy, coarser};
+ghost use Rattle.schedule.specs.Records.{meant, recordAt, stepsIn, bytesOf, Records};
 ghost use Rattle.words.specs.Words.{roomOf};
-ghost use Rattle.engine.specs.Entry.{ranAnswer, ranWith};
-ghost use Rattle.step.specs.Step.{silentBytes};
-ghost use Rattle.words.specs.Facts.{Bounded, Holds, At};
-ghost use Rattle.rules.specs.Facts.{Suits, EndsTo, Kept};
-ghost use Rattle.translate.specs.Written.{bytesOf, beginOf, translationWith};
-ghost use Rattle.translate.specs.Facts.{inForm, Records, lowestIn, RunsLow};
-ghost use Rattle.translate.specs.Entry.{wrote, translateToAnswer, translateToBytes, usual, translateAnswer, translateBytes};
+ghost use Rattle.words.specs.Facts.{atRest, inStep, mostWords, Bounded, Holds, At, Grown};
+ghost use Rattle.rules.specs.Kept.{ByEnds, ByDesign};
+ghost use Rattle.step.specs.Step.{Formed};
+ghost use Rattle.engine.specs.Entry.{startIn, ranAnswer};
+ghost use Rattle.engine.specs.Open.{Parts};
+ghost use Rattle.translate.specs.Facts.{atLevel, lowIn, ranBy, Fair, Runs, MovesTo, RefinesTo, WritesTo, Answers, RunsLow, LowersTo};
+ghost use Rattle.translate.specs.Entry.{translateToAnswer, translateToBytes, usual, translateAnswer, translateBytes};
 use fault::Answer;
+use schedule::Step;
 use words::Sizes;
 
 // Writes the bundle in the form that its own usually goes to: 0 to 1, 1 to 0, 2 to 1.
@@ -49,9 +47,37 @@ pub fn translate_to<'a>(bundle: &'a [u8], standing: &'a [u8], form: u64, out: &m
     ensures { λ r. ⌜ r ≡ translateToAnswer (now (bundle .entry)) (now (standing .entry)) form (length (now (out .entry))) ⌝ }
     ensures { λ r. ⌜ now (out .exit) ≡ translateToBytes (now (bundle .entry)) (now (standing .entry)) form (now (out .entry)) ⌝ }
 {
-    let v = bundle::read_fault(bundle, standing);
-    if v.number != 0 {
-        return fault::answered(v.number, v.place, 0);
+    let mut ends = [0u8; rules::ROOM];
+    let mut leasts = [0u16; rules::ROOM];
+    let mut words = [0u64; words::MOST];
+    translate_with(
+        bundle,
+        standing,
+        form,
+        &mut ends,
+        &mut leasts,
+        &mut words,
+        out,
+    )
+}
+
+// The same, with room for the rules and for a configuration.
+fn translate_with<'a>(
+    bundle: &'a [u8],
+    standing: &'a [u8],
+    form: u64,
+    ends: &mut [u8],
+    leasts: &mut [u16],
+    words: &mut [u64],
+    out: &mut [u8],
+) -> Answer
+    requires { ⌜ (length (now ends) ≡ 256) × (length (now leasts) ≡ 256) × (length (now words) ≡ mostWords) ⌝ }
+    ensures { λ r. ⌜ r ≡ translateToAnswer (now (bundle .entry)) (now (standing .entry)) form (length (now (out .entry))) ⌝ }
+    ensures { λ r. ⌜ now (out .exit) ≡ translateToBytes (now (bundle .entry)) (now (standing .entry)) form (now (out .entry)) ⌝ }
+{
+    let o = engine::open(bundle, standing, ends, leasts);
+    if o.number != 0 {
+        return fault::answered(o.number, o.place, 0);
     }
     if (form == bundle::form(bundle) as u64) | (2 < form) {
         return fault::answered(31, 0, 0);
@@ -60,40 +86,32 @@ pub fn translate_to<'a>(bundle: &'a [u8], standing: &'a [u8], form: u64, out: &m
     if out.len() < need {
         return fault::answered(30, 0, 0);
     }
-    let table = bundle::table_in_use(bundle, standing);
-    // The most that a configuration has: 64 states, 64 · 4 pairs of counts, 4 sent.
-    let mut words = [0u64; 580];
-    // The most that a table has: 64 rules.
-    let mut ends = [0u8; 256];
-    let mut leasts = [0u16; 256];
+    let s = o.sizes;
     translate_in(
-        table,
         bundle,
+        s,
         form as usize,
-        &mut ends,
-        &mut leasts,
-        &mut words,
+        ends,
+        leasts,
+        words,
         &mut out[..need],
     )
 }
 
-// The same for a bundle that was read, into as many bytes as it has. Its own form decides, before a byte is written.
+// The same for a bundle that is ready, into as many bytes as it has. Its own form decides, before a byte is written.
 fn translate_in(
-    table: &[u8],
     bundle: &[u8],
+    s: Sizes,
     form: usize,
-    ends: &mut [u8],
-    leasts: &mut [u16],
+    ends: &[u8],
+    leasts: &[u16],
     words: &mut [u64],
     out: &mut [u8],
 ) -> Answer
-    requires { ⌜ (Read (now table) (now bundle)) × (form ≤ 2) × (length (now ends) ≡ 256) × (length (now leasts) ≡ 256) × (length (now words) ≡ 580) × (length (now out) ≡ length (now bundle)) ⌝ }
-    ensures { λ r. ⌜ r ≡ wrote (length (now (bundle .entry))) (ranWith (now (table .entry)) (now (bundle .entry))) ⌝ }
-    ensures { λ r. ⌜ now (out .exit) ≡ (translationWith (now (table .entry)) (now (bundle .entry)) form if eqb (ranWith (now (table .entry)) (now (bundle .entry)) .refusal) 0 else now (out .entry)) ⌝ }
+    requires { ⌜ (Parts s (now bundle)) × (Bounded s) × (Fair s (now ends) (now leasts) (now bundle)) × (form ≤ 2) × (length (now words) ≡ mostWords) × (length (now out) ≡ length (now bundle)) ⌝ }
+    ensures { λ r. ⌜ Answers s (now (ends .entry)) (now (leasts .entry)) (now (bundle .entry)) form (now (out .entry)) r (now (out .exit)) ⌝ }
 {
-    let s = engine::sizes_of(table, bundle);
-    rules::keep(table, s, ends, leasts);
-    let a = run_own(table, bundle, s, ends, leasts, words);
+    let a = run_own(bundle, s, ends, leasts, words);
     if a.refusal != 0 {
         return Answer {
             refusal: a.refusal,
@@ -101,44 +119,29 @@ fn translate_in(
             count: 0,
         };
     }
-    write(table, bundle, s, form, ends, words, out);
+    write(bundle, s, form, ends, words, out);
     fault::answered(0, 0, bundle.len())
 }
 
 // The bundle's run in its own form.
-fn run_own(
-    table: &[u8],
-    bundle: &[u8],
-    s: Sizes,
-    ends: &[u8],
-    leasts: &[u16],
-    words: &mut [u64],
-) -> Answer
-    requires { ⌜ (Read (now table) (now bundle)) × (s ≡ sizesOf (now table) (now bundle)) × (Kept s (now table) (now ends) (now leasts)) × (length (now words) ≡ 580) ⌝ }
-    ensures { λ r. ⌜ r ≡ ranAnswer (ranWith (now (table .entry)) (now (bundle .entry))) ⌝ }
-    ensures { λ r. ⌜ length (now (words .exit)) ≡ 580 ⌝ }
+fn run_own(bundle: &[u8], s: Sizes, ends: &[u8], leasts: &[u16], words: &mut [u64]) -> Answer
+    requires { ⌜ (Parts s (now bundle)) × (Bounded s) × (length (now ends) ≡ 256) × (length (now leasts) ≡ 256) × (length (now words) ≡ mostWords) ⌝ }
+    ensures { λ r. ⌜ ByDesign s (now (ends .entry)) (now (leasts .entry)) (λ d. r ≡ ranAnswer (ranBy s (now (bundle .entry)) d)) ⌝ }
+    ensures { λ r. ⌜ length (now (words .exit)) ≡ mostWords ⌝ }
 {
     let need = words::room(s);
-    engine::run_in(table, bundle, s, ends, leasts, &mut words[..need])
+    engine::run_in(bundle, s, ends, leasts, &mut words[..need])
 }
 
 // The bundle that runs, with its steps in the form that is asked for, and that form as its last byte.
-fn write(
-    table: &[u8],
-    bundle: &[u8],
-    s: Sizes,
-    form: usize,
-    ends: &[u8],
-    words: &mut [u64],
-    out: &mut [u8],
-)
-    requires { ⌜ (Read (now table) (now bundle)) × (form ≤ 2) × (s ≡ sizesOf (now table) (now bundle)) × (EndsTo (s .types) (now table) (now ends) (s .rules)) × (length (now words) ≡ 580) × (length (now out) ≡ length (now bundle)) × (ranWith (now table) (now bundle) .refusal ≡ 0) ⌝ }
-    ensures { λ r. ⌜ now (out .exit) ≡ translationWith (now (table .entry)) (now (bundle .entry)) form ⌝ }
+fn write(bundle: &[u8], s: Sizes, form: usize, ends: &[u8], words: &mut [u64], out: &mut [u8])
+    requires { ⌜ (Parts s (now bundle)) × (Bounded s) × (Runs s (now ends) (now bundle)) × (form ≤ 2) × (length (now words) ≡ mostWords) × (length (now out) ≡ length (now bundle)) ⌝ }
+    ensures { λ r. ⌜ WritesTo s (now (ends .entry)) (now (bundle .entry)) form (now (out .exit)) ⌝ }
 {
     copy(bundle, out);
     let at = bundle::steps_at(bundle);
     let end = bundle.len() - 8;
-    write_steps(table, bundle, s, form, ends, words, &mut out[at..end]);
+    write_steps(bundle, s, form, ends, words, &mut out[at..end]);
     let last = bundle.len() - 1;
     out[last] = form as u8;
 }
@@ -156,40 +159,39 @@ fn copy(from: &[u8], to: &mut [u8])
     }
 }
 
-// The bundle's steps in the form that is asked for, in place of its own.
+// The bundle's steps at the level that is asked for, in place of its own.
 fn write_steps(
-    table: &[u8],
     bundle: &[u8],
     s: Sizes,
-    form: usize,
+    level: usize,
     ends: &[u8],
     words: &mut [u64],
     steps: &mut [u8],
 )
-    requires { ⌜ (Read (now table) (now bundle)) × (form ≤ 2) × (s ≡ sizesOf (now table) (now bundle)) × (EndsTo (s .types) (now table) (now ends) (s .rules)) × (length (now words) ≡ 580) × (now steps ≡ stepsOf (now bundle)) × (ranWith (now table) (now bundle) .refusal ≡ 0) ⌝ }
-    ensures { λ r. ⌜ now (steps .exit) ≡ bytesOf (moved (s .form) form (designOf s (now (table .entry))) (beginOf (now (table .entry)) (now (bundle .entry))) (stepsIn (now (steps .entry)))) ⌝ }
+    requires { ⌜ (Parts s (now bundle)) × (Bounded s) × (Runs s (now ends) (now bundle)) × (level ≤ 2) × (length (now words) ≡ mostWords) × (now steps ≡ stepsOf (now bundle)) ⌝ }
+    ensures { λ r. ⌜ MovesTo s (now (ends .entry)) (now (bundle .entry)) level (now (steps .exit)) ⌝ }
 {
-    if form < s.form {
-        refine(table, bundle, s, form, ends, words, steps);
+    if level < s.level {
+        refine(bundle, s, level, ends, words, steps);
         return;
     }
-    coarsen(s.form, form, s.correct, steps);
+    coarsen(s.level, level, s.correct, steps);
 }
 
-// ---- into a coarser form
-// From form k, one form after the other, up to the one that is asked for.
-fn coarsen(k: usize, form: usize, c: usize, steps: &mut [u8])
-    requires { ⌜ (k ≤ form) × (form ≤ 2) × (Records (now steps)) ⌝ }
-    ensures { λ r. ⌜ now (steps .exit) ≡ bytesOf (coarser (form - k) k c (stepsIn (now (steps .entry)))) ⌝ }
+// ---- to a coarser level
+// From level k, one level after the other, up to the one that is asked for.
+fn coarsen(k: usize, level: usize, c: usize, steps: &mut [u8])
+    requires { ⌜ (k ≤ level) × (level ≤ 2) × (Records (now steps)) ⌝ }
+    ensures { λ r. ⌜ now (steps .exit) ≡ bytesOf (coarser (level - k) k c (stepsIn (now (steps .entry)))) ⌝ }
 {
     let mut j = k;
-    while j < form {
+    while j < level {
         write_tags(j, c, steps);
         j += 1;
     }
 }
 
-// Each source of form j becomes its tag.
+// Each source of level j becomes its tag.
 fn write_tags(j: usize, c: usize, steps: &mut [u8])
     requires { ⌜ Records (now steps) ⌝ }
     ensures { λ r. ⌜ now (steps .exit) ≡ bytesOf (map (tagBy j c) (stepsIn (now (steps .entry)))) ⌝ }
@@ -207,58 +209,47 @@ fn tag_at(j: usize, c: usize, steps: &mut [u8], i: usize)
     requires { ⌜ (i < 4096) × (i * 4 + 3 < length (now steps)) ⌝ }
     ensures { λ r. ⌜ now (steps .exit) ≡ set (now (steps .entry)) (i * 4 + 3) (tagBy j c (recordAt (now (steps .entry)) i) .source) ⌝ }
 {
-    let at = i * 4;
-    let m = fault::byte_at(steps, at + 2);
-    let q = fault::byte_at(steps, at + 3);
-    steps[at + 3] = tag(j, c, m, q);
+    let q = tag(j, c, schedule::step_at(steps, i));
+    schedule::set_source(steps, i, q);
 }
 
-// The source of a step one form on: its tag, or 255 where there is no message.
-fn tag(j: usize, c: usize, m: usize, q: usize) -> u8
-    requires { ⌜ q < 256 ⌝ }
-    ensures { λ r. ⌜ r ≡ (q if silentBytes m q else tagOf j c q) ⌝ }
+// The source of a step one level on: its tag, or 255 where there is no message.
+fn tag(j: usize, c: usize, x: Step) -> usize
+    requires { ⌜ x .source < 256 ⌝ }
+    ensures { λ r. ⌜ (r ≡ tagBy j c (meant x) .source) × (r < 256) ⌝ }
 {
-    if step::silent(m, q) {
-        return q as u8;
+    if schedule::silent(x) {
+        return x.source;
     }
     if j != 0 {
         return 0;
     }
-    if q < c { 0 } else { 1 }
+    if x.source < c { 0 } else { 1 }
 }
 
-// ---- into a finer form
-// From the bundle's own form, one form after the other, down to the one that is asked for.
-fn refine(
-    table: &[u8],
-    bundle: &[u8],
-    s: Sizes,
-    form: usize,
-    ends: &[u8],
-    words: &mut [u64],
-    steps: &mut [u8],
-)
-    requires { ⌜ (Read (now table) (now bundle)) × (form ≤ s .form) × (s ≡ sizesOf (now table) (now bundle)) × (EndsTo (s .types) (now table) (now ends) (s .rules)) × (length (now words) ≡ 580) × (now steps ≡ stepsOf (now bundle)) × (ranWith (now table) (now bundle) .refusal ≡ 0) ⌝ }
-    ensures { λ r. ⌜ now (steps .exit) ≡ bytesOf (finer (s .form - form) form (designOf s (now (table .entry))) (beginOf (now (table .entry)) (now (bundle .entry))) (stepsIn (now (steps .entry)))) ⌝ }
+// ---- to a finer level
+// From the bundle's own level, one level after the other, down to the one that is asked for.
+fn refine(bundle: &[u8], s: Sizes, level: usize, ends: &[u8], words: &mut [u64], steps: &mut [u8])
+    requires { ⌜ (Parts s (now bundle)) × (Bounded s) × (Runs s (now ends) (now bundle)) × (level ≤ s .level) × (length (now words) ≡ mostWords) × (now steps ≡ stepsOf (now bundle)) ⌝ }
+    ensures { λ r. ⌜ RefinesTo s (now (ends .entry)) (now (bundle .entry)) level (now (steps .exit)) ⌝ }
 {
-    let mut j = s.form;
-    while form < j {
+    let mut j = s.level;
+    while level < j {
         j -= 1;
-        write_sources(table, bundle, in_form(s, j), ends, words, steps);
+        write_sources(bundle, at_level(s, j), ends, words, steps);
     }
 }
 
-// The same numbers, in form k.
-fn in_form(s: Sizes, k: usize) -> Sizes
+// The same numbers at level k.
+fn at_level(s: Sizes, k: usize) -> Sizes
     requires { ⌜ s .types ≤ 4 ⌝ }
-    ensures { λ r. ⌜ r ≡ inForm k s ⌝ }
+    ensures { λ r. ⌜ r ≡ atLevel k s ⌝ }
 {
-    let wide = words::form::wide(k);
+    let wide = words::level::wide(k);
     Sizes {
-        form: k,
+        level: k,
         correct: s.correct,
         faulty: s.faulty,
-        t: s.t,
         types: s.types,
         rules: s.rules,
         wide,
@@ -266,82 +257,75 @@ fn in_form(s: Sizes, k: usize) -> Sizes
     }
 }
 
-// Each tag becomes the lowest of its sources that is in transit, along the run in their form from the bundle's starts.
-fn write_sources(
-    table: &[u8],
-    bundle: &[u8],
-    s: Sizes,
-    ends: &[u8],
-    words: &mut [u64],
-    steps: &mut [u8],
-)
-    requires { ⌜ (Read (now table) (now bundle)) × (s ≡ inForm (s .form) (sizesOf (now table) (now bundle))) × (EndsTo (s .types) (now table) (now ends) (s .rules)) × (length (now words) ≡ 580) × (Records (now steps)) × (RunsLow s (now table) (beginOf (now table) (now bundle) (s .form)) (now steps)) ⌝ }
-    ensures { λ r. ⌜ now (steps .exit) ≡ bytesOf (lowAll (s .form) (designOf s (now (table .entry))) (beginOf (now (table .entry)) (now (bundle .entry)) (s .form)) (stepsIn (now (steps .entry)))) ⌝ }
-    ensures { λ r. ⌜ length (now (words .exit)) ≡ 580 ⌝ }
+// Each tag becomes the lowest of its sources that is in transit, along the run at their level from the bundle's starts.
+fn write_sources(bundle: &[u8], s: Sizes, ends: &[u8], words: &mut [u64], steps: &mut [u8])
+    requires { ⌜ (Parts s (now bundle)) × (Bounded s) × (length (now words) ≡ mostWords) × (Records (now steps)) × (RunsLow s (now ends) (startIn s (now bundle)) (now steps)) ⌝ }
+    ensures { λ r. ⌜ LowersTo s (now (ends .entry)) (startIn s (now (bundle .entry))) (now (steps .entry)) (now (steps .exit)) ⌝ }
+    ensures { λ r. ⌜ length (now (words .exit)) ≡ mostWords ⌝ }
 {
     let need = words::room(s);
-    write_from_start(table, bundle, s, ends, &mut words[..need], steps);
+    write_from_start(bundle, s, ends, &mut words[..need], steps);
 }
 
 // The same, in words of the right number.
-fn write_from_start(
-    table: &[u8],
-    bundle: &[u8],
-    s: Sizes,
-    ends: &[u8],
-    w: &mut [u64],
-    steps: &mut [u8],
-)
-    requires { ⌜ (Read (now table) (now bundle)) × (s ≡ inForm (s .form) (sizesOf (now table) (now bundle))) × (EndsTo (s .types) (now table) (now ends) (s .rules)) × (length (now w) ≡ roomOf s) × (Records (now steps)) × (RunsLow s (now table) (beginOf (now table) (now bundle) (s .form)) (now steps)) ⌝ }
-    ensures { λ r. ⌜ now (steps .exit) ≡ bytesOf (lowAll (s .form) (designOf s (now (table .entry))) (beginOf (now (table .entry)) (now (bundle .entry)) (s .form)) (stepsIn (now (steps .entry)))) ⌝ }
+fn write_from_start(bundle: &[u8], s: Sizes, ends: &[u8], w: &mut [u64], steps: &mut [u8])
+    requires { ⌜ (Parts s (now bundle)) × (Bounded s) × (length (now w) ≡ roomOf s) × (Records (now steps)) × (RunsLow s (now ends) (startIn s (now bundle)) (now steps)) ⌝ }
+    ensures { λ r. ⌜ LowersTo s (now (ends .entry)) (startIn s (now (bundle .entry))) (now (steps .entry)) (now (steps .exit)) ⌝ }
 {
     engine::begin(bundle::starts(bundle), s, w);
-    write_along(table, s, ends, w, steps);
+    write_along(s, ends, w, steps);
 }
 
 // The same, along the run from the words.
-fn write_along(table: &[u8], s: Sizes, ends: &[u8], w: &mut [u64], steps: &mut [u8])
-    requires { ⌜ (Suits s (now table)) × (EndsTo (s .types) (now table) (now ends) (s .rules)) × (Holds s 16 (now w)) × (Records (now steps)) × (RunsLow s (now table) (now w) (now steps)) ⌝ }
-    ensures { λ r. ⌜ now (steps .exit) ≡ bytesOf (lowAll (s .form) (designOf s (now (table .entry))) (now (w .entry)) (stepsIn (now (steps .entry)))) ⌝ }
+fn write_along(s: Sizes, ends: &[u8], w: &mut [u64], steps: &mut [u8])
+    requires { ⌜ (Bounded s) × (Holds s 256 (now w)) × (Records (now steps)) × (RunsLow s (now ends) (now w) (now steps)) ⌝ }
+    ensures { λ r. ⌜ LowersTo s (now (ends .entry)) (now (w .entry)) (now (steps .entry)) (now (steps .exit)) ⌝ }
 {
     let total = steps.len() / 4;
     let mut i = 0;
     while i < total {
-        source_at(table, s, ends, w, steps, i);
+        source_at(s, ends, w, steps, i);
         i += 1;
     }
 }
 
 // The tag of record i becomes its source, and the step is taken.
-fn source_at(table: &[u8], s: Sizes, ends: &[u8], w: &mut [u64], steps: &mut [u8], i: usize)
-    requires { ⌜ (Suits s (now table)) × (EndsTo (s .types) (now table) (now ends) (s .rules)) × (Holds s 900000 (now w)) × (i < 4096) × (i * 4 + 3 < length (now steps)) × (stepFault (s .form) (designOf s (now table)) (now w) (lowest (s .form) (designOf s (now table)) (now w) (recordAt (now steps) i)) ≡ 0) ⌝ }
-    ensures { λ r. ⌜ now (w .exit) ≡ stepped (s .form) (designOf s (now (table .entry))) (now (w .entry)) (lowest (s .form) (designOf s (now (table .entry))) (now (w .entry)) (recordAt (now (steps .entry)) i)) ⌝ }
-    ensures { λ r. ⌜ now (steps .exit) ≡ set (now (steps .entry)) (i * 4 + 3) (lowest (s .form) (designOf s (now (table .entry))) (now (w .entry)) (recordAt (now (steps .entry)) i) .source) ⌝ }
+fn source_at(s: Sizes, ends: &[u8], w: &mut [u64], steps: &mut [u8], i: usize)
+    requires { ⌜ (Bounded s) × (length (now ends) ≡ 256) × (Holds s atRest (now w)) × (i < 4096) × (i * 4 + 3 < length (now steps)) × (Formed s (lowIn s (now w) (recordAt (now steps) i))) ⌝ }
+    ensures { λ r. ⌜ ByEnds s (now (ends .entry)) (λ d. now (w .exit) ≡ stepped (s .level) d (now (w .entry)) (lowIn s (now (w .entry)) (recordAt (now (steps .entry)) i))) ⌝ }
+    ensures { λ r. ⌜ Grown s (now (w .entry)) (now (w .exit)) ⌝ }
+    ensures { λ r. ⌜ now (steps .exit) ≡ set (now (steps .entry)) (i * 4 + 3) (lowIn s (now (w .entry)) (recordAt (now (steps .entry)) i) .source) ⌝ }
 {
-    let at = i * 4;
-    let p = fault::byte_at(steps, at);
-    let r = fault::byte_at(steps, at + 1);
-    let m = fault::byte_at(steps, at + 2);
-    let tag = fault::byte_at(steps, at + 3);
-    let q = source(s, w, p, m, tag);
-    step::apply_step(table, s, ends, w, p, r, m, q);
-    steps[at + 3] = q as u8;
+    let x = schedule::step_at(steps, i);
+    let q = source(s, w, x);
+    step::apply_step(
+        s,
+        ends,
+        w,
+        Step {
+            board: x.board,
+            rule: x.rule,
+            mtype: x.mtype,
+            source: q,
+        },
+    );
+    schedule::set_source(steps, i, q);
 }
 
 // The source of a step: the lowest of its tag that is in transit, or 255 where there is no message.
-fn source(s: Sizes, w: &[u64], p: usize, m: usize, tag: usize) -> usize
-    requires { ⌜ (Bounded s) × (Holds s 1000000 (now w)) × (tag < 256) × (silentBytes m tag ≡ false → (At s p m) × (tag < column (suc (s .form)) (s .correct) (s .faulty) .sources)) ⌝ }
-    ensures { λ r. ⌜ (r ≡ (tag if silentBytes m tag else lowestIn s (now (w .entry)) p m tag)) × (r < 256) ⌝ }
+fn source(s: Sizes, w: &[u64], x: Step) -> usize
+    requires { ⌜ (Bounded s) × (Holds s inStep (now w)) × (x .source < 256) × (paper.silent (meant x) ≡ false → (At s (x .board) (x .mtype)) × (x .source < column (suc (s .level)) (s .correct) (s .faulty) .sources)) ⌝ }
+    ensures { λ r. ⌜ (r ≡ lowIn s (now (w .entry)) (meant x) .source) × (r < 256) ⌝ }
 {
-    if step::silent(m, tag) {
-        return tag;
+    if schedule::silent(x) {
+        return x.source;
     }
-    if s.form != 0 {
-        return words::first_source(s, w, p, m);
+    if s.level != 0 {
+        return words::first_source(s, w, x.board, x.mtype);
     }
-    let i = words::cell_at(s, p, m);
-    let j = words::sent_at(s, m);
-    lowest_of(s.correct, s.faulty, tag, w[i], w[j])
+    let i = words::cell_at(s, x.board, x.mtype);
+    let j = words::sent_at(s, x.mtype);
+    lowest_of(s.correct, s.faulty, x.source, w[i], w[j])
 }
 
 // The lowest sender of the tag that is in transit, by the set that was received and the set that was sent.

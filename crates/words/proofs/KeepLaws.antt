@@ -1,4 +1,4 @@
--- What a step keeps: the number of words, and in the forms that count how large they get.
+-- What a step keeps: the number of words, and in the levels that count how large they get.
 use mathlib.Core.Path.{_≡_, refl, _∙_}
 use mathlib.Core.Bool.{Bool, true, false}
 use mathlib.Core.List.{List, [], _∷_}

@@ -1,3 +1,3 @@
-pub mod FormCases
+pub mod LevelCases
 pub mod PlaceLaws
 pub mod KeepLaws

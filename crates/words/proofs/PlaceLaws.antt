@@ -19,7 +19,7 @@ spread p T m k = sym (add-mul (p * T) m k ∙ ap (λ (x : ℕ). x + m * k) (mul-
 
 module _ (s : Sizes) (B : Bounded s) where
   wide-few : s .wide ≤ 2
-  wide-few = rw (B .wide) (wide-some (s .form) .1)
+  wide-few = rw (B .wide) (wide-some (s .level) .1)
 
   row-few : s .row ≤ 8
   row-few = rw (B .row) (mul-le-mul {n₂ = 4} {m₂ = 2} (B .types) wide-few)
@@ -27,8 +27,8 @@ module _ (s : Sizes) (B : Bounded s) where
   pub rows-few : s .correct * s .row ≤ 512
   rows-few = mul-le-mul {n₂ = 64} {m₂ = 8} (omega (arith, B .boards)) row-few
 
-  pub rows-are : s .correct * s .row ≡ s .correct * s .types * wide (s .form)
-  rows-are = rw (B .row, B .wide) (sym (mul-assoc (s .correct) (s .types) (wide (s .form))))
+  pub rows-are : s .correct * s .row ≡ s .correct * s .types * wide (s .level)
+  rows-are = rw (B .row, B .wide) (sym (mul-assoc (s .correct) (s .types) (wide (s .level))))
 
   module _ {p m : ℕ} (A : At s p m) where
     pub row-at-few : p * s .row ≤ 504
@@ -37,18 +37,18 @@ module _ (s : Sizes) (B : Bounded s) where
     pub cell-few : m * s .wide ≤ 6
     cell-few = mul-le-mul {n₂ = 3} {m₂ = 2} (omega (arith, A .type, B .types)) wide-few
 
-    pub cell-in-room : cellAt (s .correct) (s .types) (wide (s .form)) p m 0 + wide (s .form) ≤ roomOf s
+    pub cell-in-room : cellAt (s .correct) (s .types) (wide (s .level)) p m 0 + wide (s .level) ≤ roomOf s
     unfolding cellAt size
     cell-in-room =
-        let k = wide (s .form) in
-        omega (arith, digits-lt {q = p * s .types + m} {m = s .correct * s .types} {r = k - 1} {c = k} (digits-lt (A .board) (A .type)) (omega (arith, wide-some (s .form) .0)), wide-some (s .form) .0)
+        let k = wide (s .level) in
+        omega (arith, digits-lt {q = p * s .types + m} {m = s .correct * s .types} {r = k - 1} {c = k} (digits-lt (A .board) (A .type)) (omega (arith, wide-some (s .level) .0)), wide-some (s .level) .0)
 
     -- `cell_at`, from what it has in hand
-    pub cell-is : s .correct + p * s .row + m * s .wide ≡ cellAt (s .correct) (s .types) (wide (s .form)) p m 0
+    pub cell-is : s .correct + p * s .row + m * s .wide ≡ cellAt (s .correct) (s .types) (wide (s .level)) p m 0
     unfolding cellAt
-    cell-is = rw (B .row, B .wide) (omega (arith, spread p (s .types) m (wide (s .form))))
+    cell-is = rw (B .row, B .wide) (omega (arith, spread p (s .types) m (wide (s .level))))
 
-    pub cell-inside : s .correct + p * s .row + m * s .wide + wide (s .form) ≤ roomOf s
+    pub cell-inside : s .correct + p * s .row + m * s .wide + wide (s .level) ≤ roomOf s
     cell-inside = rw cell-is cell-in-room
 
 -- the words of a cell stand one after the other
@@ -56,11 +56,11 @@ pub cell-next : (C T k p m e : ℕ) → cellAt C T k p m 0 + e ≡ cellAt C T k 
 unfolding cellAt
 cell-next C T k p m e = omega arith
 
-pub room-is : (s : Sizes) → sentAt (s .correct) (s .types) (wide (s .form)) 0 + s .types ≡ roomOf s
+pub room-is : (s : Sizes) → sentAt (s .correct) (s .types) (wide (s .level)) 0 + s .types ≡ roomOf s
 unfolding sentAt size
 room-is s = omega arith
 
-pub sent-in-room : (s : Sizes) (m : ℕ) → m < s .types → sentAt (s .correct) (s .types) (wide (s .form)) m < roomOf s
+pub sent-in-room : (s : Sizes) (m : ℕ) → m < s .types → sentAt (s .correct) (s .types) (wide (s .level)) m < roomOf s
 unfolding sentAt size
 sent-in-room s m h = omega arith
 

@@ -6,17 +6,17 @@ ghost use Rattle.senders.specs.Tally.{least};
 ghost use Rattle.paper.specs.Words.{cellAt, sentAt};
 ghost use Rattle.paper.specs.Words as words;
 ghost use Rattle.paper.specs.Form as forms;
-ghost use Rattle.words.specs.Words.{roomOf, columnIn, countIn, transitIn};
-ghost use Rattle.words.specs.Facts.{Bounded, Holds, At, Source};
+ghost use Rattle.words.specs.Words.{roomOf, columnIn, countIn, correctIn, faultyIn, sentCountIn, transitIn};
+ghost use Rattle.words.specs.Facts.{inStep, mostWords, Bounded, Holds, At, Sourced};
 
-pub mod form; // functions of the form's number
+pub mod level; // what the words of a cell come to, by the level's number
 
-// The numbers that a run goes by.
+// The numbers that stepping goes by; rules are counted here so that a step has them beside the others.
 pub struct Sizes {
-    pub form: usize,
+    // 0 message, 1 counting, 2 plain
+    pub level: usize,
     pub correct: usize,
     pub faulty: usize,
-    pub t: usize,
     pub types: usize,
     pub rules: usize,
     // words of a cell, and of all cells of a board
@@ -24,10 +24,13 @@ pub struct Sizes {
     pub row: usize,
 }
 
+// The most words that a configuration has: 64 states, 64 · 4 cells of two words, 4 sent.
+pub const MOST: usize = 580;
+
 // How many words a configuration has.
 pub fn room(s: Sizes) -> usize
     requires { ⌜ Bounded s ⌝ }
-    ensures { λ r. ⌜ (r ≡ roomOf s) × (r ≤ 580) ⌝ }
+    ensures { λ r. ⌜ (r ≡ roomOf s) × (r ≤ mostWords) ⌝ }
 {
     sent_at(s, 0) + s.types
 }
@@ -35,7 +38,7 @@ pub fn room(s: Sizes) -> usize
 // Where the sent word of type m stands.
 pub fn sent_at(s: Sizes, m: usize) -> usize
     requires { ⌜ (Bounded s) × (m ≤ s .types) ⌝ }
-    ensures { λ r. ⌜ (r ≡ sentAt (s .correct) (s .types) (forms.wide (s .form)) m) × (r ≤ 576 + m) ⌝ }
+    ensures { λ r. ⌜ (r ≡ sentAt (s .correct) (s .types) (forms.wide (s .level)) m) × (r ≤ 576 + m) ⌝ }
 {
     s.correct + s.correct * s.row + m
 }
@@ -43,7 +46,7 @@ pub fn sent_at(s: Sizes, m: usize) -> usize
 // Where the cell of board p for type m begins.
 pub fn cell_at(s: Sizes, p: usize, m: usize) -> usize
     requires { ⌜ (Bounded s) × (At s p m) ⌝ }
-    ensures { λ r. ⌜ (r ≡ cellAt (s .correct) (s .types) (forms.wide (s .form)) p m 0) × (r + forms.wide (s .form) ≤ roomOf s) × (r ≤ 576) ⌝ }
+    ensures { λ r. ⌜ (r ≡ cellAt (s .correct) (s .types) (forms.wide (s .level)) p m 0) × (r + forms.wide (s .level) ≤ roomOf s) × (r ≤ 576) ⌝ }
 {
     s.correct + p * s.row + m * s.wide
 }
@@ -51,30 +54,67 @@ pub fn cell_at(s: Sizes, p: usize, m: usize) -> usize
 // The last word of the cell that begins at i, which is the first where a cell has one.
 fn last_of(s: Sizes, i: usize) -> usize
     requires { ⌜ (Bounded s) × (i ≤ 576) ⌝ }
-    ensures { λ r. ⌜ (r ≡ i + forms.slot (s .form) 1) × (r < i + forms.wide (s .form)) × (r ≤ 577) ⌝ }
+    ensures { λ r. ⌜ (r ≡ i + forms.slot (s .level) 1) × (r < i + forms.wide (s .level)) × (r ≤ 577) ⌝ }
 {
     i + (s.wide - 1)
 }
 
 // How many messages of type m board p has received.
 pub fn count(s: Sizes, w: &[u64], p: usize, m: usize) -> u64
-    requires { ⌜ (Bounded s) × (At s p m) × (Holds s 1000000 (now w)) ⌝ }
+    requires { ⌜ (Bounded s) × (At s p m) × (Holds s inStep (now w)) ⌝ }
     ensures { λ r. ⌜ (r ≡ countIn s (now (w .entry)) p m) × (r ≤ 2000000) ⌝ }
 {
     let i = cell_at(s, p, m);
     let j = last_of(s, i);
-    form::card(s.form, s.wide, s.correct, s.faulty, w[i], w[j])
+    level::card(s.level, s.wide, s.correct, s.faulty, w[i], w[j])
+}
+
+// How many of them are from correct boards; where one count has them all, how many there are.
+pub fn correct_in(s: Sizes, w: &[u64], p: usize, m: usize) -> u64
+    requires { ⌜ (Bounded s) × (At s p m) × (length (now w) ≡ roomOf s) ⌝ }
+    ensures { λ r. ⌜ r ≡ correctIn s (now (w .entry)) p m ⌝ }
+{
+    let i = cell_at(s, p, m);
+    let j = last_of(s, i);
+    level::from_correct(s.level, s.correct, s.faulty, w[i], w[j])
+}
+
+// And how many from faulty ones, where that is told.
+pub fn faulty_in(s: Sizes, w: &[u64], p: usize, m: usize) -> u64
+    requires { ⌜ (Bounded s) × (At s p m) × (length (now w) ≡ roomOf s) ⌝ }
+    ensures { λ r. ⌜ r ≡ faultyIn s (now (w .entry)) p m ⌝ }
+{
+    let i = cell_at(s, p, m);
+    let j = last_of(s, i);
+    level::from_faulty(s.level, s.correct, s.faulty, w[i], w[j])
+}
+
+// How many boards have sent type m.
+pub fn sent_in(s: Sizes, w: &[u64], m: usize) -> u64
+    requires { ⌜ (Bounded s) × (m < s .types) × (length (now w) ≡ roomOf s) ⌝ }
+    ensures { λ r. ⌜ r ≡ sentCountIn s (now (w .entry)) m ⌝ }
+{
+    let i = sent_at(s, m);
+    level::from_correct(s.level, s.correct, s.faulty, w[i], 0)
+}
+
+// The state of board p.
+pub fn state_in(s: Sizes, w: &[u64], p: usize) -> u64
+    requires { ⌜ (Bounded s) × (p < s .correct) × (length (now w) ≡ roomOf s) ⌝ }
+    ensures { λ r. ⌜ r ≡ words.state (now (w .entry)) p ⌝ }
+{
+    w[p]
 }
 
 // Is the message of type m from q in transit to board p?
 pub fn in_transit(s: Sizes, w: &[u64], p: usize, m: usize, q: usize) -> bool
-    requires { ⌜ (Bounded s) × (At s p m) × (Source s q) × (Holds s 1000000 (now w)) ⌝ }
+    requires { ⌜ (Bounded s) × (At s p m) × (Sourced s q) × (Holds s inStep (now w)) ⌝ }
     ensures { λ r. ⌜ r ≡ transitIn s (now (w .entry)) p m q ⌝ }
 {
     let i = cell_at(s, p, m);
     let j = last_of(s, i);
     let k = sent_at(s, m);
-    form::in_transit(s.form, s.wide, s.correct, s.faulty, q, w[i], w[j], w[k])
+    level::in_transit(s.level, s.wide, s.correct, s.faulty, q, w[i], w[j], w[k])
 }
 
 // Board p enters a state; the word is written only where that changes it.
@@ -90,29 +130,29 @@ pub fn enter(w: &mut [u64], p: usize, state: u64)
 
 // The lowest source of a message of type m in transit to board p; as many as there are sources where there is none.
 pub fn first_source(s: Sizes, w: &[u64], p: usize, m: usize) -> usize
-    requires { ⌜ (Bounded s) × (At s p m) × (Holds s 1000000 (now w)) ⌝ }
+    requires { ⌜ (Bounded s) × (At s p m) × (Holds s inStep (now w)) ⌝ }
     ensures { λ r. ⌜ r ≡ least (columnIn s .sources) (transitIn s (now (w .entry)) p m) ⌝ }
 {
     let i = cell_at(s, p, m);
     let j = last_of(s, i);
     let k = sent_at(s, m);
-    form::first_source(s.form, s.wide, s.correct, s.faulty, w[i], w[j], w[k])
+    level::first_source(s.level, s.wide, s.correct, s.faulty, w[i], w[j], w[k])
 }
 
 // Board p receives the message of type m from q.
 pub fn hear(s: Sizes, w: &mut [u64], p: usize, m: usize, q: usize)
-    requires { ⌜ (Bounded s) × (At s p m) × (Source s q) × (Holds s 1000000 (now w)) ⌝ }
-    ensures { λ r. ⌜ now (w .exit) ≡ words.hear (s .correct) (s .types) (forms.wide (s .form)) p m (forms.slot (s .form) q) (forms.bump (s .form) q) (now (w .entry)) ⌝ }
+    requires { ⌜ (Bounded s) × (At s p m) × (Sourced s q) × (Holds s inStep (now w)) ⌝ }
+    ensures { λ r. ⌜ now (w .exit) ≡ words.hear (s .correct) (s .types) (forms.wide (s .level)) p m (forms.slot (s .level) q) (forms.bump (s .level) q) (now (w .entry)) ⌝ }
 {
     let i = cell_at(s, p, m);
-    form::receive(s.form, w, i, q);
+    level::receive(s.level, w, i, q);
 }
 
 // Board p sends type m.
 pub fn tell(s: Sizes, w: &mut [u64], p: usize, m: usize)
-    requires { ⌜ (Bounded s) × (At s p m) × (Holds s 1000000 (now w)) ⌝ }
-    ensures { λ r. ⌜ now (w .exit) ≡ set (now (w .entry)) (sentAt (s .correct) (s .types) (forms.wide (s .form)) m) (forms.bump (s .form) (columnIn s .own p) (words.sent (s .correct) (s .types) (forms.wide (s .form)) (now (w .entry)) m)) ⌝ }
+    requires { ⌜ (Bounded s) × (At s p m) × (Holds s inStep (now w)) ⌝ }
+    ensures { λ r. ⌜ now (w .exit) ≡ set (now (w .entry)) (sentAt (s .correct) (s .types) (forms.wide (s .level)) m) (forms.bump (s .level) (columnIn s .own p) (words.sent (s .correct) (s .types) (forms.wide (s .level)) (now (w .entry)) m)) ⌝ }
 {
     let i = sent_at(s, m);
-    w[i] = form::bump(s.form, p, w[i]);
+    w[i] = level::bump(s.level, p, w[i]);
 }

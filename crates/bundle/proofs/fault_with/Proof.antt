@@ -1,5 +1,6 @@
+-- 10, 11, the table's own refusal, then the schedule's: each check is reached where those before say no, and these give what it asks for.
 use borrow.Author.Needs.{needs}
-use Rattle.bundle.proofs.BundleLaws.{long-by, trailed, table-sized}
+use Rattle.bundle.proofs.BundleLaws.{trailer-by, trailed, table-sized}
 use Rattle.bundle.specs.Refusals.{faultWith}
 use Rattle.fault.proofs.FaultLaws.{if-yes, if-no, then-stop, then-pass}
 use Rattle.bundle.proofs.fault_with.Statement.{statement}
@@ -10,10 +11,9 @@ unfolding faultWith
 fault-with-spec =
     tie.close
     (tie.spec
-    (λ c κs. search needs)
-    (λ c κs. search needs)
+    (λ c κs. search needs) (λ c κs. search needs)
     (λ c. search (if-yes, needs))
-    (λ c κs. search long-by)
+    (λ c κs. search trailer-by)
     (λ c κs. search needs)
     (λ c. search (if-yes, if-no, needs))
     (λ c κs. search needs)

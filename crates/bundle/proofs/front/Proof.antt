@@ -1,3 +1,4 @@
+-- What is left of the bundle before its schedule part; 0 where the trailer is missing or the part would be longer than the bundle.
 use native.Mathlib.Omega.{arith}
 use borrow.Author.Needs.{needs}
 use Rattle.bundle.specs.Bundle.{frontLength}
@@ -10,8 +11,6 @@ front-spec =
     tie.close
     (tie.spec
     (λ c. omega arith)
-    (λ c κs. search needs)
-    (λ c. search needs)
-    (λ c. search needs)
+    (λ c κs. search needs) (λ c. search needs) (λ c. search needs)
     (λ c. omega arith)
     (λ c. omega arith))

@@ -1,3 +1,4 @@
+-- The test is the definition.
 use mathlib.Core.Path.{refl}
 use Rattle.bundle.specs.Refusals.{noTrailer}
 use Rattle.bundle.proofs.no_trailer.Statement.{statement}

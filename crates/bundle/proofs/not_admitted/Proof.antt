@@ -1,3 +1,4 @@
+-- The four tests are those of `notAdmitted`; the product k·t fits, since both are bytes.
 use borrow.Author.Needs.{needs}
 use Rattle.bundle.specs.Refusals.{notAdmitted}
 use Rattle.bundle.proofs.not_admitted.Statement.{statement}
@@ -8,10 +9,6 @@ unfolding notAdmitted
 not-admitted-spec =
     tie.close
     (tie.spec
-    (λ c κs. search needs)
-    (λ c κs. search needs)
-    (λ c κs. search needs)
-    (λ c κs. search needs)
-    (λ c κs. search needs)
+    (λ c κs. search needs) (λ c κs. search needs) (λ c κs. search needs) (λ c κs. search needs) (λ c κs. search needs)
     (λ c κs. search needs)
     (λ c. cc))

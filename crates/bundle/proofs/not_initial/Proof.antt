@@ -1,3 +1,4 @@
+-- A start that is no state is refused before its flags would be looked up; any other is refused by its flag.
 use borrow.Author.Needs.{needs}
 use Rattle.bundle.proofs.BundleLaws.{start-outside, start-inside}
 use Rattle.bundle.proofs.not_initial.Statement.{statement}

@@ -1,3 +1,4 @@
+-- The distance is at most 65,535, so the sum doesn't wrap; the test is then the definition.
 use borrow.Author.Needs.{needs}
 use Rattle.bundle.specs.Refusals.{outOfBundle}
 use Rattle.bundle.proofs.out_of_bundle.Statement.{statement}
@@ -8,6 +9,5 @@ unfolding outOfBundle
 out-of-bundle-spec =
     tie.close
     (tie.spec
-    (λ c κs. search needs)
-    (λ c. search needs)
+    (λ c κs. search needs) (λ c. search needs)
     (λ c. cc))

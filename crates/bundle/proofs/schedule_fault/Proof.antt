@@ -1,3 +1,4 @@
+-- 12, 13, then the starts. Where 13 says no the bundle's parts lie inside it, so the starts are one byte for each correct board.
 use borrow.Author.Needs.{needs}
 use Rattle.bundle.proofs.BundleLaws.{parted, admitted-with, starts-last}
 use Rattle.bundle.specs.Refusals.{scheduleFault}
@@ -10,12 +11,9 @@ unfolding scheduleFault
 schedule-fault-spec =
     tie.close
     (tie.spec
-    (λ c κs. search needs)
-    (λ c κs. search needs)
-    (λ c κs. search needs)
+    (λ c κs. search needs) (λ c κs. search needs) (λ c κs. search needs)
     (λ c. search (if-yes, admitted-with, needs))
-    (λ c κs. search needs)
-    (λ c κs. search needs)
+    (λ c κs. search needs) (λ c κs. search needs)
     (λ c. search (if-yes, if-no, admitted-with, needs))
     (λ c κs. (search needs, search parted))
     (λ c κs. search needs)

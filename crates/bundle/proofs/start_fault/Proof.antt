@@ -1,3 +1,4 @@
+-- 14 where the start byte is no initial state and 0 else, as in `startFault`.
 use borrow.Author.Needs.{needs}
 use Rattle.bundle.proofs.BundleLaws.{start-wrong, start-right}
 use Rattle.bundle.proofs.start_fault.Statement.{statement}
@@ -7,7 +8,6 @@ pub start-fault-spec : {M : Type 1} → statement M
 start-fault-spec =
     tie.close
     (tie.spec
-    (λ c κs. search needs)
-    (λ c κs. search needs)
+    (λ c κs. search needs) (λ c κs. search needs)
     (λ c. search start-wrong)
     (λ c. search start-right))

@@ -1,3 +1,4 @@
+-- The loop keeps that no board before i has a start at fault, so the first that it finds is the lowest.
 use mathlib.Core.Path.{_≡_}
 use Prim.Native.Nat.{_≤_, _-_}
 use borrow.Author.Needs.{needs}
@@ -22,7 +23,6 @@ starts-fault-spec =
     (λ c. (search needs, search first-none))
     (λ c κs. search needs)
     (λ c. search (first-found, needs))
-    (λ c. search needs)
-    (λ c. search needs)
+    (λ c. search needs) (λ c. search needs)
     (λ c. (search needs, search first-more))
     (λ c. search (first-never, needs)))

@@ -1,3 +1,4 @@
+-- What is cut after the start bytes, as long as the trailer says, is `stepsOf`; it ends where the trailer begins.
 use native.Mathlib.Omega.{arith}
 use borrow.Author.Needs.{needs}
 use Rattle.bundle.proofs.BundleLaws.{steps-are}
@@ -8,8 +9,7 @@ pub steps-spec : {M : Type 1} → statement M
 steps-spec =
     tie.close
     (tie.spec
-    (λ c κs. search needs)
-    (λ c κs. search needs)
+    (λ c κs. search needs) (λ c κs. search needs)
     (λ c. omega arith)
     (λ c. search needs)
     (λ c. omega arith)

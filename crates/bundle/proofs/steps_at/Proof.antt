@@ -1,3 +1,4 @@
+-- The steps stand after the front and the start bytes, and reach to the trailer.
 use native.Mathlib.Omega.{arith}
 use borrow.Author.Needs.{needs}
 use Rattle.bundle.proofs.steps_at.Statement.{statement}

@@ -1,3 +1,4 @@
+-- The three tests are those of `stepsOff`.
 use borrow.Author.Needs.{needs}
 use Rattle.bundle.specs.Refusals.{stepsOff}
 use Rattle.bundle.proofs.steps_off.Statement.{statement}
@@ -8,8 +9,5 @@ unfolding stepsOff
 steps-off-spec =
     tie.close
     (tie.spec
-    (λ c κs. search needs)
-    (λ c κs. search needs)
-    (λ c κs. search needs)
-    (λ c. search needs)
+    (λ c κs. search needs) (λ c κs. search needs) (λ c κs. search needs) (λ c. search needs)
     (λ c. cc))

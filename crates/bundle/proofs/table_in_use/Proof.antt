@@ -1,3 +1,4 @@
+-- By the length of the front: empty leaves the standing table, and any other is cut from the bundle's first bytes.
 use mathlib.Core.Path.{sym}
 use native.Mathlib.Omega.{arith}
 use borrow.Author.Needs.{needs}

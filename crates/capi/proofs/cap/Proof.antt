@@ -1,3 +1,4 @@
+-- Refusal and count are kept and the place is shortened: the definition's three fields.
 use borrow.Author.Needs.{needs}
 use Rattle.capi.proofs.PackedLaws.{capped-by}
 use Rattle.capi.proofs.cap.Statement.{statement}

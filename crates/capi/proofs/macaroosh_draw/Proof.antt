@@ -1,3 +1,4 @@
+-- Every answer of a drawing fits its bits, so that it can be packed; the lent bytes are as drawing leaves them.
 use borrow.Author.Needs.{needs}
 use Rattle.capi.proofs.PackedLaws.{draw-fits-by, packed-by}
 use Rattle.capi.proofs.macaroosh_draw.Statement.{statement}

@@ -1,3 +1,4 @@
+-- Every first step and refusal fits its bits, so that it can be packed.
 use borrow.Author.Needs.{needs}
 use Rattle.capi.proofs.PackedLaws.{first-fits-by, packed-first-by}
 use Rattle.capi.proofs.macaroosh_first_step.Statement.{statement}

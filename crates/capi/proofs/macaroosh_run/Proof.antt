@@ -1,3 +1,4 @@
+-- Every answer of a run fits its bits, so that it can be packed; the lent words are as the run leaves them.
 use borrow.Author.Needs.{needs}
 use Rattle.capi.proofs.PackedLaws.{run-fits-by, packed-by}
 use Rattle.capi.proofs.macaroosh_run.Statement.{statement}

@@ -1,3 +1,4 @@
+-- Every answer of a translation fits its bits, also that to the usual form; the lent bytes are as the translation leaves them.
 use borrow.Author.Needs.{needs}
 use Rattle.capi.proofs.PackedLaws.{translate-fits-by, packed-by}
 use Rattle.capi.proofs.macaroosh_translate.Statement.{statement}

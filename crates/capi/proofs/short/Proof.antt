@@ -1,3 +1,4 @@
+-- A place below 2^24 is kept and any other is the largest of 24 bits: the test is the one of the definition.
 use mathlib.Core.Path.{refl}
 use native.Mathlib.Omega.{arith}
 use borrow.Author.Tests.{lt-ltb, le-ltb}

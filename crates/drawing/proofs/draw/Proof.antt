@@ -1,3 +1,4 @@
+-- Writing into no bytes gives the drawing's length and changes nothing. A refused table, too few bytes lent and enough of them are the three cases of `given`.
 use mathlib.Core.Path.{ap, _∙_}
 use mathlib.Core.List.{List}
 use Prim.Native.Nat.{ℕ}
@@ -16,16 +17,22 @@ unfolding drawAnswer drawBytes
 draw-spec =
     tie.close
     (tie.spec
-    (λ c κs. search needs)
-    (λ c κs. search needs)
-    (λ c. let a = c .before .before .before .before .before .before .args in let E = gave-refused (drawingOf (a .table .now)) (a .out .now) (c .before .before .before .table-fault .ensures) (c .before .if1 .taken) (c .answered .ensures) in (E .answer, E .bytes))
-    (λ c. search needs)
-    (λ c. search needs)
+    (λ c κs. search needs) (λ c κs. search needs)
+    (λ c. let a = c .before .before .before .before .before .before .args in
+    let E = gave-refused (drawingOf (a .table .now)) (a .out .now) (c .before .before .before .table-fault .ensures) (c .before .if1 .taken) (c .answered .ensures) in (E .answer, E .bytes))
+    (λ c. search needs) (λ c. search needs)
     (λ c κs. sized-table (c .before .before .before .before .before .before .args .table .now) (c .before .before .before .table-fault .ensures) (c .before .if1 .left))
-    (λ c κs. search needs)
-    (λ c. search needs)
-    (λ c. let a = c .before .before .before .before .before .before .before .before .before .before .before .args in let M = measured _ (drawingOf (a .table .now)) (a .out .now) (c .before .before .before .before .write .ensures .2) in let E = gave-short (drawingOf (a .table .now)) (a .out .now) (c .before .before .before .before .before .before .before .before .table-fault .ensures) (c .before .before .before .before .before .before .if1 .left) (omega (arith, ap length M, c .before .before .before .before .write .ensures .0, c .before .if2 .taken)) (c .answered2 .ensures) in (E .answer, M ∙ E .bytes))
-    (λ c κs. sized-table (c .before .before .before .before .before .before .before .before .before .before .before .args .table .now) (c .before .before .before .before .before .before .before .before .table-fault .ensures) (c .before .before .before .before .before .before .if1 .left))
-    (λ c κs. search needs)
-    (λ c. search needs)
-    (λ c. let a = c .before .before .before .before .before .before .before .before .before .before .before .before .before .before .before .args in let M = measured _ (drawingOf (a .table .now)) (a .out .now) (c .before .before .before .before .before .before .before .before .write .ensures .2) in let E = gave-all (drawingOf (a .table .now)) (a .out .now) (c .before .before .before .before .before .before .before .before .before .before .before .before .table-fault .ensures) (c .before .before .before .before .before .before .before .before .before .before .if1 .left) (omega (arith, ap length M, c .before .before .before .before .before .before .before .before .write .ensures .0, c .before .before .before .before .before .if2 .left)) (c .answered3 .ensures ∙ ap writes (c .before .before .before .before .before .before .before .before .write .ensures .0)) (c .before .before .before .write2 .ensures .2 ∙ ap (λ (l : List ℕ). stored l 0 (drawingOf (a .table .now))) M) in (E .answer, E .bytes)))
+    (λ c κs. search needs) (λ c. search needs)
+    (λ c. let counted = c .before .before .before .before in let passed = counted .before .before in let start = passed .before .before .before .before .before in
+    let d = drawingOf (start .args .table .now) in
+    let M = measured _ d (start .args .out .now) (counted .write .ensures .2) in
+    let E = gave-short d (start .args .out .now) (passed .before .before .table-fault .ensures) (passed .if1 .left) (omega (arith, ap length M, counted .write .ensures .0, c .before .if2 .taken)) (c .answered2 .ensures) in
+    (E .answer, M ∙ E .bytes))
+    (λ c κs. let passed = c .before .before .before .before .before .before in sized-table (passed .before .before .before .before .before .args .table .now) (passed .before .before .table-fault .ensures) (passed .if1 .left))
+    (λ c κs. search needs) (λ c. search needs)
+    (λ c. let tested = c .before .before .before .before .before in let counted = tested .before .before .before in let passed = counted .before .before in
+    let start = passed .before .before .before .before .before in
+    let d = drawingOf (start .args .table .now) in
+    let M = measured _ d (start .args .out .now) (counted .write .ensures .2) in
+    let E = gave-all d (start .args .out .now) (passed .before .before .table-fault .ensures) (passed .if1 .left) (omega (arith, ap length M, counted .write .ensures .0, tested .if2 .left)) (c .answered3 .ensures ∙ ap writes (counted .write .ensures .0)) (c .before .before .before .write2 .ensures .2 ∙ ap (λ (l : List ℕ). stored l 0 d) M) in
+    (E .answer, E .bytes)))

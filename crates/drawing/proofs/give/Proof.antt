@@ -1,3 +1,4 @@
+-- A refused table, too few bytes lent and enough of them are the three cases of `given` and `left`.
 use native.Mathlib.Omega.{arith}
 use borrow.Author.Needs.{needs}
 use Rattle.drawing.proofs.EntryLaws.{Gave, gave-refused, gave-short, gave-all}
@@ -8,12 +9,13 @@ pub give-spec : {M : Type 1} → statement M
 give-spec =
     tie.close
     (tie.spec
+    (λ c κs. search needs) (λ c κs. search needs)
+    (λ c. let a = c .before .before .before .before .before .before .args in
+    let E = gave-refused (a .table .now) (a .out .now) (c .before .before .before .table-fault .ensures) (c .before .if1 .taken) (c .answered .ensures) in (E .answer, E .bytes))
     (λ c κs. search needs)
-    (λ c κs. search needs)
-    (λ c. let a = c .before .before .before .before .before .before .args in let E = gave-refused (a .table .now) (a .out .now) (c .before .before .before .table-fault .ensures) (c .before .if1 .taken) (c .answered .ensures) in (E .answer, E .bytes))
-    (λ c κs. search needs)
-    (λ c. let a = c .before .before .before .before .before .before .before .args in let E = gave-short (a .table .now) (a .out .now) (c .before .before .before .before .table-fault .ensures) (c .before .before .if1 .left) (c .before .if2 .taken) (c .answered2 .ensures) in (E .answer, E .bytes))
-    (λ c κs. search needs)
-    (λ c κs. search needs)
-    (λ c. search needs)
-    (λ c. let a = c .before .before .before .before .before .before .before .before .before .before .before .args in let E = gave-all (a .table .now) (a .out .now) (c .before .before .before .before .before .before .before .before .table-fault .ensures) (c .before .before .before .before .before .before .if1 .left) (c .before .before .before .before .before .if2 .left) (c .answered3 .ensures) (c .before .before .before .put-all .ensures .bytes) in (E .answer, E .bytes)))
+    (λ c. let a = c .before .before .before .before .before .before .before .args in
+    let E = gave-short (a .table .now) (a .out .now) (c .before .before .before .before .table-fault .ensures) (c .before .before .if1 .left) (c .before .if2 .taken) (c .answered2 .ensures) in (E .answer, E .bytes))
+    (λ c κs. search needs) (λ c κs. search needs) (λ c. search needs)
+    (λ c. let tested = c .before .before .before .before .before in let read = tested .before .before .before in let a = read .before .before .before .args in
+    let E = gave-all (a .table .now) (a .out .now) (read .table-fault .ensures) (tested .before .if1 .left) (tested .if2 .left) (c .answered3 .ensures) (c .before .before .before .put-all .ensures .bytes) in
+    (E .answer, E .bytes)))

@@ -1,3 +1,4 @@
+-- Each number is read from its trailer; the words of a cell and of a board's cells follow from them.
 use borrow.Author.Needs.{needs}
 use Rattle.engine.proofs.sizes_of.Statement.{statement}
 use Rattle.engine.proofs.sizes_of.Tie as tie
@@ -6,12 +7,6 @@ pub sizes-of-spec : {M : Type 1} → statement M
 sizes-of-spec =
     tie.close
     (tie.spec
-    (λ c κs. search needs)
-    (λ c κs. search needs)
-    (λ c κs. search needs)
-    (λ c κs. search needs)
-    (λ c κs. search needs)
-    (λ c κs. search needs)
-    (λ c κs. search needs)
-    (λ c κs. search needs)
+    (λ c κs. search needs) (λ c κs. search needs) (λ c κs. search needs) (λ c κs. search needs) (λ c κs. search needs)
+    (λ c κs. search needs) (λ c κs. search needs)
     (λ c. cc))

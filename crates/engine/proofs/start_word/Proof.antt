@@ -1,4 +1,6 @@
+-- A start byte is read where there is one; past them the list gives 0 too.
 use mathlib.Core.Path.{sym}
+use native.Mathlib.Omega.{arith}
 use borrow.Author.Needs.{needs}
 use lib.ListN.{List·getD-eq-default}
 use Rattle.engine.proofs.start_word.Statement.{statement}
@@ -8,7 +10,6 @@ pub start-word-spec : {M : Type 1} → statement M
 start-word-spec =
     tie.close
     (tie.spec
-    (λ c κs. search needs)
-    (λ c. search needs)
+    (λ c κs. search needs) (λ c. search needs)
     (λ c. let a = c .before .before .args in
-    sym (List·getD-eq-default (a .starts .now) 0 (c .if1 .left))))
+    (sym (List·getD-eq-default (a .starts .now) 0 (c .if1 .left)), omega arith)))

@@ -1,3 +1,4 @@
+-- Where n is inside, the byte is set there; past the end nothing changes. Either way it is `stored` of one byte.
 use native.Mathlib.Omega.{arith}
 use borrow.Author.Needs.{needs}
 use Rattle.pen.proofs.PenLaws.{stored-fits, stored-over}
@@ -8,9 +9,7 @@ pub put-spec : {M : Type 1} → statement M
 put-spec =
     tie.close
     (tie.spec
-    (λ c. search needs)
-    (λ c. search needs)
-    (λ c. search needs)
+    (λ c. search needs) (λ c. search needs) (λ c. search needs)
     (λ c. (omega arith, search stored-fits))
     (λ c. search needs)
     (λ c. (omega arith, search (stored-over, needs))))

@@ -1,14 +1,15 @@
+-- The loop keeps that putting the rest of the word from here on comes to putting all of it from n on.
 use mathlib.Core.Path.{_≡_, refl}
 use Prim.Native.Nat.{_+_, _-_, _≤_}
 use native.Mathlib.Omega.{arith}
 use borrow.Author.Needs.{needs}
 use lib.ListN.{length, drop}
-use Rattle.pen.proofs.PenLaws.{Rest, rest-all, word-more, word-over}
+use Rattle.pen.proofs.PenLaws.{RestPut, rest-all, word-more, word-over}
 use Rattle.pen.proofs.put_all.Statement.{statement}
 use Rattle.pen.proofs.put_all.Tie as tie
 
 abbrev Inv-loop : tie.InvT-loop
-Inv-loop out₀ n word i₀ m₀ out i m = (i ≤ length word) × (m ≡ n + i) × (length out ≡ length out₀) × Rest out₀ n word out m (drop i word)
+Inv-loop out₀ n word i₀ m₀ out i m = (i ≤ length word) × (m ≡ n + i) × (length out ≡ length out₀) × RestPut out₀ n word out m (drop i word)
 
 abbrev μ-loop : tie.MeasureT-loop
 μ-loop out₀ n word i₀ m₀ out i m = length word - i
@@ -20,10 +21,7 @@ put-all-spec =
     Inv-loop
     μ-loop
     (λ c. (omega arith, omega arith, refl, rest-all refl))
-    (λ c. search needs)
-    (λ c κs. search needs)
-    (λ c. search needs)
-    (λ c. search needs)
+    (λ c. search needs) (λ c κs. search needs) (λ c. search needs) (λ c. search needs)
     (λ c. (omega arith, omega arith, search needs, search word-more))
     (λ c. search needs)
     (λ c. search word-over))

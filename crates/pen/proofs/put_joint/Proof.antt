@@ -1,6 +1,7 @@
+-- By the number's place: nothing before the first, a comma and a blank where a type begins, else a blank.
 use borrow.Author.Needs.{needs}
 use native.Mathlib.Omega.{arith}
-use Rattle.pen.proofs.NumberLaws.{joint-none, joint-type, joint-blank}
+use Rattle.pen.proofs.NumberLaws.{put-joint-none, put-joint-type, joint-blank}
 use Rattle.pen.proofs.put_joint.Statement.{statement}
 use Rattle.pen.proofs.put_joint.Tie as tie
 
@@ -8,12 +9,8 @@ pub put-joint-spec : {M : Type 1} → statement M
 put-joint-spec =
     tie.close
     (tie.spec
-    (λ c. (search joint-none, omega arith))
-    (λ c. search needs)
-    (λ c κs. search needs)
-    (λ c. search needs)
-    (λ c. (search joint-type, omega arith))
-    (λ c. search needs)
-    (λ c κs. search needs)
-    (λ c. search needs)
+    (λ c. (search put-joint-none, omega arith))
+    (λ c. search needs) (λ c κs. search needs) (λ c. search needs)
+    (λ c. (search put-joint-type, omega arith))
+    (λ c. search needs) (λ c κs. search needs) (λ c. search needs)
     (λ c. (search joint-blank, omega arith)))

@@ -1,3 +1,4 @@
+-- What opens the label, its numbers, what closes it: three puts, whose sum is `labelled`.
 use borrow.Author.Needs.{needs}
 use native.Mathlib.Omega.{arith}
 use Rattle.pen.proofs.PartLaws.{label-put}
@@ -8,10 +9,6 @@ pub put-label-spec : {M : Type 1} → statement M
 put-label-spec =
     tie.close
     (tie.spec
-    (λ c. search needs)
-    (λ c κs. search needs)
-    (λ c κs. search needs)
-    (λ c. search needs)
-    (λ c κs. search needs)
+    (λ c. search needs) (λ c κs. search needs) (λ c κs. search needs) (λ c. search needs) (λ c κs. search needs)
     (λ c. search needs)
     (λ c. (search label-put, omega arith)))

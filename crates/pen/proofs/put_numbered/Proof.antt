@@ -1,3 +1,4 @@
+-- The word and the number, one put after the other.
 use borrow.Author.Needs.{needs}
 use native.Mathlib.Omega.{arith}
 use Rattle.pen.proofs.PenLaws.{put-then}
@@ -8,7 +9,5 @@ pub put-numbered-spec : {M : Type 1} → statement M
 put-numbered-spec =
     tie.close
     (tie.spec
-    (λ c κs. search needs)
-    (λ c κs. search needs)
-    (λ c. search needs)
+    (λ c κs. search needs) (λ c κs. search needs) (λ c. search needs)
     (λ c. (search put-then, omega arith)))

@@ -1,12 +1,13 @@
+-- The loop keeps that the lines of the rules still left, put from here on, come to all lines from n on.
 use mathlib.Core.Path.{_≡_, refl}
 use Prim.Native.Nat.{_+_, _*_, _-_, _≤_}
 use native.Mathlib.Omega.{arith}
 use borrow.Author.Needs.{needs}
 use lib.ListN.{length}
-use Rattle.table.specs.Table.{statesOf, rulesOf, typesOf, ruleAt}
+use Rattle.table.specs.Table.{statesOf, rulesOf, typesOf, ruleAt, stateBytes}
 use Rattle.dot.specs.Text.{rulesText}
-use Rattle.pen.specs.Pen.{alone}
-use Rattle.pen.proofs.PenLaws.{Rest, rest-all}
+use Rattle.pen.specs.Pen.{alone, mostRuleText}
+use Rattle.pen.proofs.PenLaws.{RestPut, rest-all}
 use Rattle.pen.proofs.TextLaws.{rules-first}
 use Rattle.pen.proofs.PartLaws.{rules-turn, rules-end}
 use Rattle.pen.proofs.put_rules.Statement.{statement}
@@ -14,7 +15,7 @@ use Rattle.pen.proofs.put_rules.Tie as tie
 
 abbrev Inv-loop : tie.InvT-loop
 Inv-loop out₀ n table rules k₀ m₀ out k m =
-    (k ≤ rules) × (m ≤ n + 97 * k) × (length out ≡ length out₀) × Rest out₀ n (alone (rulesText (rulesOf table) (typesOf table) table (2 * statesOf table))) out m (alone (rulesText (rulesOf table - k) (typesOf table) table (ruleAt table k)))
+    (k ≤ rules) × (m ≤ n + mostRuleText * k) × (length out ≡ length out₀) × RestPut out₀ n (alone (rulesText (rulesOf table) (typesOf table) table (stateBytes * statesOf table))) out m (alone (rulesText (rulesOf table - k) (typesOf table) table (ruleAt table k)))
 
 abbrev μ-loop : tie.MeasureT-loop
 μ-loop out₀ n table rules k₀ m₀ out k m = rules - k
@@ -27,9 +28,7 @@ put-rules-spec =
     μ-loop
     (λ c κs. search needs)
     (λ c. (omega arith, omega arith, refl, rest-all (search rules-first)))
-    (λ c κs. search needs)
-    (λ c. search needs)
-    (λ c. search needs)
+    (λ c κs. search needs) (λ c. search needs) (λ c. search needs)
     (λ c. (omega arith, omega arith, search needs, search rules-turn))
     (λ c. search needs)
     (λ c. (search rules-end, omega arith)))

@@ -1,3 +1,4 @@
+-- The sign's test picks the spelling.
 use borrow.Author.Needs.{needs}
 use native.Mathlib.Omega.{arith}
 use Rattle.pen.proofs.NumberLaws.{spelt-plain, spelt-signed}
@@ -8,9 +9,7 @@ pub put-spelt-spec : {M : Type 1} → statement M
 put-spelt-spec =
     tie.close
     (tie.spec
-    (λ c κs. search needs)
-    (λ c. search needs)
+    (λ c κs. search needs) (λ c. search needs)
     (λ c. (search spelt-signed, omega arith))
-    (λ c κs. search needs)
-    (λ c. search needs)
+    (λ c κs. search needs) (λ c. search needs)
     (λ c. (search spelt-plain, omega arith)))

@@ -1,13 +1,15 @@
+-- All boards that the loop comes to are there, and the words are those of a configuration.
 use Prim.Native.Nat.{_≤_, _-_}
+use native.Mathlib.Omega.{arith}
 use borrow.Author.Needs.{needs}
 use Rattle.report.proofs.print_configuration.Statement.{statement}
 use Rattle.report.proofs.print_configuration.Tie as tie
 
 abbrev Inv-loop : tie.InvT-loop
-Inv-loop bundle table words s correct faulty types p₀ p = p ≤ correct
+Inv-loop s w boards p₀ p = p ≤ boards
 
 abbrev μ-loop : tie.MeasureT-loop
-μ-loop bundle table words s correct faulty types p₀ p = correct - p
+μ-loop s w boards p₀ p = boards - p
 
 pub print-configuration-spec : {M : Type 1} → statement M
 print-configuration-spec =
@@ -15,17 +17,9 @@ print-configuration-spec =
     (tie.spec
     Inv-loop
     μ-loop
-    (λ c. search needs)
-    (λ c. search needs)
-    (λ c κs. search needs)
-    (λ c κs. search needs)
-    (λ c. search needs)
-    (λ c κs. search needs)
-    (λ c κs. search needs)
-    (λ c. search needs)
-    (λ c κs. search needs)
-    (λ c. search needs)
-    (λ c. search needs)
-    (λ c. search needs)
-    (λ c κs. search needs)
+    (λ c. omega arith)
+    (λ c κs. let st = c .before .before .before in
+    (st .pre .0, c .loop-test .taken, st .pre .1))
+    (λ c. search needs) (λ c. search needs) (λ c. search needs)
+    (λ c κs. c .before .before .before .pre)
     (λ c. search needs))

@@ -1,13 +1,15 @@
+-- All types that the loop comes to are there, and the words are those of a configuration.
 use Prim.Native.Nat.{_≤_, _-_}
+use native.Mathlib.Omega.{arith}
 use borrow.Author.Needs.{needs}
 use Rattle.report.proofs.print_sent.Statement.{statement}
 use Rattle.report.proofs.print_sent.Tie as tie
 
 abbrev Inv-loop : tie.InvT-loop
-Inv-loop form correct types words m₀ m = m ≤ types
+Inv-loop s w types m₀ m = m ≤ types
 
 abbrev μ-loop : tie.MeasureT-loop
-μ-loop form correct types words m₀ m = types - m
+μ-loop s w types m₀ m = types - m
 
 pub print-sent-spec : {M : Type 1} → statement M
 print-sent-spec =
@@ -15,13 +17,9 @@ print-sent-spec =
     (tie.spec
     Inv-loop
     μ-loop
-    (λ c. search needs)
-    (λ c κs. search needs)
-    (λ c. search needs)
-    (λ c κs. search needs)
-    (λ c κs. search needs)
-    (λ c. search needs)
-    (λ c. search needs)
-    (λ c. search needs)
-    (λ c κs. search needs)
+    (λ c. search needs) (λ c κs. search needs)
+    (λ c. omega arith)
+    (λ c κs. let st = c .before .before .before .before .before in
+    (st .pre .0, c .loop-test .taken, st .pre .1))
+    (λ c κs. search needs) (λ c. search needs) (λ c. search needs) (λ c. search needs) (λ c κs. search needs)
     (λ c. search needs))

@@ -1,8 +1,9 @@
+-- All three are read of the rule's record and of the table before the first is written, each in a place of its own.
 use Prim.Native.Nat.{_+_, _*_}
 use native.Mathlib.Omega.{arith}
 use borrow.Author.Needs.{needs}
 use lib.ListN.{set, length-set}
-use Rattle.rules.proofs.RuleLaws.{rule-few}
+use Rattle.table.proofs.RecordLaws.{leaves-is, enters-is}
 use Rattle.rules.proofs.ends_of.Statement.{statement}
 use Rattle.rules.proofs.ends_of.Tie as tie
 
@@ -10,21 +11,23 @@ pub ends-of-spec : {M : Type 1} → statement M
 ends-of-spec =
     tie.close
     (tie.spec
-    (λ c κs. search needs)
-    (λ c κs. search needs)
-    (λ c κs. search needs)
+    (λ c κs. let st = c .before .before in
+    (st .pre .0 .formed .sized, st .pre .1, st .pre .0 .types, rw (← st .pre .0 .rules) (st .pre .2)))
+    (λ c κs. omega (arith, c .rule .ensures .1))
+    (λ c κs. omega (arith, c .before .rule .ensures .1))
+    (λ c κs. let st = c .before .before .before .before .before in let a = st .args in
+    let rule = c .before .before .rule .ensures .0 in
+    (st .pre .0, st .pre .2, leaves-is (a .table .now) (a .r) rule (c .before .leaves .ensures .0), enters-is (a .table .now) (a .r) rule (c .enters .ensures .0)))
+    (λ c. search needs) (λ c. search needs) (λ c. search needs) (λ c. search needs) (λ c. search needs)
+    (λ c. let st = c .before .before .before .before .before .before in let a = st .args in
+    omega (arith, length-set (a .ends .now) (a .r * 4) (c .before .before .leaves .result), st .pre .3, st .pre .2, st .pre .0 .bounded .rules))
+    (λ c. search needs) (λ c. search needs)
+    (λ c. let st = c .before .before .before .before .before .before in let a = st .args in
+    let x = c .before .before .leaves .result in
+    omega (arith, length-set (a .ends .now) (a .r * 4) x, length-set (set (a .ends .now) (a .r * 4) x) (a .r * 4 + 1) (c .before .enters .result), st .pre .3, st .pre .2, st .pre .0 .bounded .rules))
     (λ c. search needs)
-    (λ c. search needs)
-    (λ c. search needs)
-    (λ c. search needs)
-    (λ c. search needs)
-    (λ c. let st = c .before .before .before .before .before in
-    let a = st .args in
-    omega (arith, length-set (a .ends .now) (a .r * 4) (c .before .before .from .result), st .pre .2, st .pre .1, rule-few (a .s) (a .table .now) (st .pre .0)))
-    (λ c. search needs)
-    (λ c. search needs)
-    (λ c. let st = c .before .before .before .before .before in
-    let a = st .args in
-    omega (arith, length-set (a .ends .now) (a .r * 4) (c .before .before .from .result), length-set (set (a .ends .now) (a .r * 4) (c .before .before .from .result)) (a .r * 4 + 1) (c .before .to .result), st .pre .2, st .pre .1, rule-few (a .s) (a .table .now) (st .pre .0)))
-    (λ c. search needs)
-    (λ c. rw (c .before .before .from .ensures .0, c .before .to .ensures .0, c .sent-by .ensures .0)))
+    (λ c. let a = c .before .before .before .before .before .before .args in
+    let rule = c .before .before .before .rule .ensures .0 in
+    let x = leaves-is (a .table .now) (a .r) rule (c .before .before .leaves .ensures .0) in
+    let y = enters-is (a .table .now) (a .r) rule (c .before .enters .ensures .0) in
+    rw (x, y, c .sent-by .ensures .0)))

@@ -1,3 +1,4 @@
+-- Rule by rule, its least counts are stored beside those of the rules before it, which stay.
 use mathlib.Core.Path.{sym, _∙_}
 use Prim.Native.Nat.{_-_, _≤_}
 use native.Mathlib.Omega.{arith}
@@ -8,10 +9,10 @@ use Rattle.rules.proofs.keep_leasts.Statement.{statement}
 use Rattle.rules.proofs.keep_leasts.Tie as tie
 
 abbrev Inv-loop : tie.InvT-loop
-Inv-loop table s leasts₀ rules r₀ leasts r = (r ≤ rules) × LeastsTo s table leasts r 0
+Inv-loop table states t s leasts₀ rules r₀ leasts r = (r ≤ rules) × LeastsTo s t table leasts r 0
 
 abbrev μ-loop : tie.MeasureT-loop
-μ-loop table s leasts₀ rules r₀ leasts r = rules - r
+μ-loop table states t s leasts₀ rules r₀ leasts r = rules - r
 
 pub keep-leasts-spec : {M : Type 1} → statement M
 keep-leasts-spec =
@@ -20,14 +21,13 @@ keep-leasts-spec =
     Inv-loop
     μ-loop
     (λ c. let st = c .before .before in
-    (omega arith, leasts-none (st .args .s) (st .args .table .now) (st .args .leasts .now) (st .pre .1)))
+    (omega arith, leasts-none (st .args .s) (st .args .t) (st .args .table .now) (st .args .leasts .now) (st .pre .3)))
     (λ c κs. let st = c .before .before .before .before .before in
-    (st .pre .0, c .before .loop-test .taken, c .before .before .loop .inv .1))
-    (λ c. search needs)
-    (λ c. search needs)
-    (λ c. let a = c .before .before .before .before .before .before .before .before .args in
-    (omega (arith, c .before .before .before .before .loop-test .taken), leasts-next (a .s) (a .table .now) (c .before .before .leasts-of .last .1 .1 .0) (c .before .before .before .before .before .loop .r) (c .before .before .leasts-of .ensures)))
+    (st .pre .0, st .pre .1, st .pre .2, c .before .loop-test .taken, c .before .before .loop .inv .1))
+    (λ c. search needs) (λ c. search needs)
+    (λ c. let in-turn = c .before .before .before .before in let turn = in-turn .before in let a = turn .before .before .before .args in
+    (omega (arith, in-turn .loop-test .taken), leasts-next (a .s) (a .t) (a .table .now) (c .before .before .leasts-of .last .1 .1 .1 .1 .0) (turn .loop .r) (c .before .before .leasts-of .ensures)))
     (λ c. let st = c .before .before .before .before in
-    c .before .loop .inv .1 .long ∙ sym (st .pre .1))
+    c .before .loop .inv .1 .long ∙ sym (st .pre .3))
     (λ c. let a = c .before .before .before .before .args in
-    leasts-all (a .s) (a .table .now) (c .before .loop .leasts) (c .before .loop .r) (a .s .rules) (c .before .loop .inv .0) (c .loop-test .left) (c .before .loop .inv .1)))
+    leasts-all (a .s) (a .t) (a .table .now) (c .before .loop .leasts) (c .before .loop .r) (a .s .rules) (c .before .loop .inv .0) (c .loop-test .left) (c .before .loop .inv .1)))

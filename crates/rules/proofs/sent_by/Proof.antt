@@ -1,3 +1,4 @@
+-- A well-formed table has the states of a rule's ends; the lowest type that the one's mask has and the other's lacks is what the rule sends.
 use mathlib.Core.Path.{ap₂, _∙_}
 use Prim.Native.Nat.{ℕ}
 use native.Mathlib.Omega.{arith}

@@ -1,3 +1,4 @@
+-- The ones under the mask of the senders below c are the members below c; a word has at most 64 ones.
 use borrow.Author.Needs.{needs}
 use lib.Dec.{lit<}
 use native.Mathlib.Nat.{lt-of-le-of-lt}

@@ -1,3 +1,4 @@
+-- The difference of the two masks has a one for each of the f senders from c on, so the ones under it are the members among these.
 use borrow.Author.Needs.{needs}
 use lib.Dec.{lit<}
 use native.Mathlib.Nat.{lt-of-le-of-lt}
@@ -9,9 +10,7 @@ pub faulty-count-spec : {M : Type 1} → statement M
 faulty-count-spec =
     tie.close
     (tie.spec
-    (λ c. search needs)
-    (λ c κs. search needs)
-    (λ c κs. search needs)
+    (λ c. search needs) (λ c κs. search needs) (λ c κs. search needs)
     (λ c. rw (c .first2 .ensures, c .before .first .ensures) (mask-less _ _))
     (λ c. record { fits = lt-of-le-of-lt (ones-few _ _ (c .before .before .fits .set .fits)) (lit< tt) })
     (λ c. let a = c .before .before .args in (

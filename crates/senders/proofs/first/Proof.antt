@@ -1,3 +1,4 @@
+-- `2 ^ c - 1` has a one for each sender below c. At c = 64 the shift would wrap, and the number is written out.
 use mathlib.Core.Path.{_≡_}
 use borrow.Author.Needs.{needs}
 use native.Mathlib.Omega.{arith}

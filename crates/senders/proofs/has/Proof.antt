@@ -1,3 +1,4 @@
+-- Bit q of the word is what is left after a shift by q, modulo 2: the definition of `mem`.
 use borrow.Author.Needs.{needs}
 use mathlib.Core.Path.{refl}
 use Rattle.senders.specs.Set.{mem}

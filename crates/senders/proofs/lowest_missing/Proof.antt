@@ -1,3 +1,4 @@
+-- The zeros at the end of `set & !other` count up to its lowest member. Where that is not below c, none below c is missing.
 use native.Mathlib.Nat.{lt-of-le-of-lt}
 use native.Mathlib.Omega.{arith}
 use lib.Count.{trailing-le}

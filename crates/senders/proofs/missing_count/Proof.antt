@@ -1,3 +1,4 @@
+-- A sender below c is in `set & !other` just if it is in the set and missing from the other, so counting one counts the other.
 use mathlib.Core.Path.{_∙_}
 use borrow.Author.Needs.{needs}
 use native.Mathlib.Omega.{arith}

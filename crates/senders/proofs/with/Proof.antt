@@ -1,3 +1,4 @@
+-- A one at place q is `2 ^ q`, since q is below 64; `insert` is defined by that or.
 use borrow.Author.Needs.{needs}
 use Rattle.senders.specs.Set.{insert}
 use Rattle.senders.proofs.WordLaws.{shl-one}

@@ -1,30 +1,24 @@
-use mathlib.Core.Path.{_≡_, ap, _∙_, subst⁻¹}
+-- The change by the kept ends is that of every design that they stand for.
+use mathlib.Core.Path.{ap, sym, _∙_, subst⁻¹}
+use Prim.Native.Nat.{_+_, _*_}
 use native.Mathlib.Omega.{arith}
+use borrow.Author.Needs.{needs}
 use lib.ListN.{length}
-use Rattle.words.proofs.KeepLaws.{holds-more}
-use Rattle.step.proofs.KeepLaws.{holds-heard}
-use Rattle.step.proofs.StepLaws.{granted}
-use Rattle.rules.specs.Design.{designOf}
-use Rattle.step.specs.Step.{stepOf}
-use Rattle.words.specs.Facts.{Holds}
-use Rattle.paper.proofs.StepLaws.{length-stepped}
-use Rattle.paper.specs.Step.{heard, stepped}
+use Rattle.step.proofs.KeptLaws.{stepped-kept, grown-stepped, length-kept}
+use Rattle.words.specs.Facts.{Grown}
+use Rattle.schedule.specs.Records.{meant}
 use Rattle.step.proofs.apply_step.Statement.{statement}
 use Rattle.step.proofs.apply_step.Tie as tie
 
 pub apply-step-spec : {M : Type 1} → statement M
-unfolding heard stepped
 apply-step-spec =
     tie.close
     (tie.spec
-    (λ c κs. let st = c .before .before .before .before in
-    let a = st .args in
-    let G = granted (a .s) (a .table .now) (a .w .now) (a .p) (a .r) (a .m) (a .q) (st .pre .0) (st .pre .3) in (st .pre .0 .bounded, G .board, G .well-named, holds-more (a .s) 900000 1000000 (a .w .now) (omega arith) (st .pre .2)))
-    (λ c κs. let st = c .before .before .before .before .before .before .before .before in
-    let a = st .args in
-    let G = granted (a .s) (a .table .now) (a .w .now) (a .p) (a .r) (a .m) (a .q) (st .pre .0) (st .pre .3) in
-    (st .pre .0, st .pre .1, G .board, rw (st .pre .0 .rules) (G .rule), holds-more (a .s) 900001 1000000 (c .before .before .before .receive .last .1 .0) (omega arith) (subst⁻¹ (Holds (a .s) 900001) (c .before .before .before .receive .ensures) (holds-heard (a .s) (a .table .now) (a .w .now) (a .p) (a .r) (a .m) (a .q) 900000 (st .pre .2)))))
-    (λ c. let a = c .before .before .before .before .before .before .before .before .before .before .before .args in
-    let e : c .before .before .move-on .last .1 .1 .1 .0 ≡ stepped (a .s .form) (designOf (a .s) (a .table .now)) (a .w .now) (stepOf (a .p) (a .r) (a .m) (a .q)) = c .before .before .move-on .ensures ∙ rw (c .before .before .before .before .before .before .receive .ensures) in
-    ap length e ∙ length-stepped (a .s .form) (designOf (a .s) (a .table .now)) (a .w .now) (stepOf (a .p) (a .r) (a .m) (a .q)))
-    (λ c. c .before .before .move-on .ensures ∙ rw (c .before .before .before .before .before .before .receive .ensures)))
+    (λ c κs. search needs)
+    (λ c. let done = c .before .before in let st = done .before .before .before .before in let a = st .args in
+    ap length (done .change .ensures) ∙ length-kept (a .s) (a .ends .now) (a .w .now) (meant (a .x)))
+    (λ c. let done = c .before .before in let st = done .before .before .before .before in
+    let a = st .args in (
+      λ d K. done .change .ensures ∙ sym (stepped-kept d (a .s) (a .ends .now) K (a .w .now) (meant (a .x)) (st .pre .2 .rule)),
+      subst⁻¹ (Grown (a .s) (a .w .now)) (done .change .ensures) (grown-stepped (a .s) (a .ends .now) (a .w .now) (meant (a .x)) (omega (arith, done .before .before .before .shared-slice-known .given (a .x .rule * 4 + 1)))),
+    )))

@@ -1,3 +1,4 @@
+-- The digit of a comparison is 1 where it holds and 0 where not: the two branches.
 use mathlib.Core.Path.{refl}
 use native.Mathlib.Omega.{arith}
 use borrow.Author.Tests.{eq-eqb, ne-eqb}

@@ -1,3 +1,4 @@
+-- The word and the kept state are compared as they stand.
 use borrow.Author.Needs.{needs}
 use Rattle.paper.specs.Words.{state}
 use Rattle.step.proofs.other_state.Statement.{statement}
@@ -8,7 +9,5 @@ unfolding state
 other-state-spec =
     tie.close
     (tie.spec
-    (λ c. search needs)
-    (λ c. search needs)
-    (λ c κs. search needs)
+    (λ c. search needs) (λ c. search needs) (λ c κs. search needs)
     (λ c. cc))

@@ -1,7 +1,9 @@
-use mathlib.Core.Path.{refl}
+-- Without a message nothing changes; with one, its cell does.
 use borrow.Author.Needs.{needs}
 use Rattle.step.proofs.StepLaws.{names-type, names-source}
-use Rattle.fault.proofs.FaultLaws.{if-yes, if-no}
+use mathlib.Core.Path.{sym, _∙_}
+use Rattle.paper.proofs.StepLaws.{heard-silent, heard-message}
+use Rattle.step.specs.Step.{sized}
 use Rattle.step.proofs.receive.Statement.{statement}
 use Rattle.step.proofs.receive.Tie as tie
 
@@ -10,9 +12,10 @@ receive-spec =
     tie.close
     (tie.spec
     (λ c κs. search needs)
-    (λ c. if-yes _ refl (c .before .silent .ensures) (c .if1 .taken))
-    (λ c κs. let st = c .before .before .before .before in
-    let a = st .args in
-    (st .pre .0, names-type (a .s) (a .p) (a .m) (a .q) (st .pre .2) (c .before .before .silent .ensures) (c .before .if1 .left) (st .pre .1), names-source (a .s) (a .p) (a .m) (a .q) (st .pre .2) (c .before .before .silent .ensures) (c .before .if1 .left), st .pre .3))
+    (λ c. let a = c .before .before .before .args in
+    sym (heard-silent (a .s .level) (sized (a .s)) (a .w .now) _ (sym (c .before .silent .ensures) ∙ c .if1 .taken)))
+    (λ c κs. let st = c .before .before .before .before in let a = st .args in
+    (st .pre .0, names-type (a .s) _ (st .pre .1) (c .before .before .silent .ensures) (c .before .if1 .left), names-source (a .s) _ (st .pre .1) (c .before .before .silent .ensures) (c .before .if1 .left), st .pre .2))
     (λ c. search needs)
-    (λ c. if-no _ (c .before .before .before .before .before .silent .ensures) (c .before .before .before .before .if1 .left) (c .before .before .hear .ensures)))
+    (λ c. let a = c .before .before .before .before .before .before .before .args in
+    c .before .before .hear .ensures ∙ sym (heard-message (a .s .level) (sized (a .s)) (a .w .now) _ (sym (c .before .before .before .before .before .silent .ensures) ∙ c .before .before .before .before .if1 .left))))

@@ -1,3 +1,4 @@
+-- The counts that are tested are those that the trailer has.
 use borrow.Author.Needs.{needs}
 use Rattle.table.specs.Refusals.{countsOff}
 use Rattle.table.proofs.counts_off.Statement.{statement}
@@ -8,12 +9,5 @@ unfolding countsOff
 counts-off-spec =
     tie.close
     (tie.spec
-    (λ c κs. search needs)
-    (λ c κs. search needs)
-    (λ c κs. search needs)
-    (λ c κs. search needs)
-    (λ c κs. search needs)
-    (λ c κs. search needs)
-    (λ c κs. search needs)
-    (λ c κs. search needs)
+    (λ c κs. search needs) (λ c κs. search needs) (λ c κs. search needs) (λ c κs. search needs) (λ c κs. search needs)
     (λ c. cc))

@@ -1,3 +1,4 @@
+-- The three tests are those of `distancesOff`; the product of the counts fits, since each is a byte.
 use borrow.Author.Needs.{needs}
 use Rattle.table.specs.Refusals.{distancesOff}
 use Rattle.table.proofs.distances_off.Statement.{statement}
@@ -8,15 +9,7 @@ unfolding distancesOff
 distances-off-spec =
     tie.close
     (tie.spec
-    (λ c κs. search needs)
-    (λ c κs. search needs)
-    (λ c. search needs)
-    (λ c. search needs)
-    (λ c κs. search needs)
-    (λ c κs. search needs)
-    (λ c κs. search needs)
-    (λ c. search needs)
-    (λ c. search needs)
-    (λ c κs. search needs)
+    (λ c κs. search needs) (λ c κs. search needs) (λ c. search needs) (λ c. search needs) (λ c κs. search needs)
+    (λ c κs. search needs) (λ c κs. search needs) (λ c. search needs) (λ c. search needs) (λ c κs. search needs)
     (λ c. search needs)
     (λ c. cc))

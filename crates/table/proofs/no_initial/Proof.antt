@@ -1,3 +1,4 @@
+-- The loop keeps that no state before i is initial: one that is ends it with no, and past the last state there is none.
 use mathlib.Core.Bool.{false}
 use mathlib.Core.Path.{_≡_}
 use Prim.Native.Nat.{_≤_, _-_}
@@ -25,7 +26,6 @@ no-initial-spec =
     (λ c. (search needs, search some-none))
     (λ c κs. search needs)
     (λ c. search (initial-found, needs))
-    (λ c. search needs)
-    (λ c. search needs)
+    (λ c. search needs) (λ c. search needs)
     (λ c. (search needs, search some-more))
     (λ c. search (initial-never, needs)))

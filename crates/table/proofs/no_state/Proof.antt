@@ -1,3 +1,4 @@
+-- Both ends are looked up and compared with the number of states, as in `noState`.
 use borrow.Author.Needs.{needs}
 use Rattle.table.specs.Refusals.{noState}
 use Rattle.table.proofs.no_state.Statement.{statement}
@@ -8,7 +9,5 @@ unfolding noState
 no-state-spec =
     tie.close
     (tie.spec
-    (λ c κs. search needs)
-    (λ c κs. search needs)
-    (λ c κs. search needs)
+    (λ c κs. search needs) (λ c κs. search needs) (λ c κs. search needs)
     (λ c. cc))

@@ -1,3 +1,4 @@
+-- States, then the initial state, then rules: each stage goes on only where the one before refuses nothing, as in `recordsFault`.
 use borrow.Author.Needs.{needs}
 use Rattle.fault.proofs.FaultLaws.{if-yes, if-no, then-stop, then-pass}
 use Rattle.table.specs.Refusals.{recordsFault}
@@ -11,8 +12,7 @@ records-fault-spec =
     (tie.spec
     (λ c κs. search needs)
     (λ c. search then-stop)
-    (λ c κs. search needs)
-    (λ c κs. search needs)
+    (λ c κs. search needs) (λ c κs. search needs)
     (λ c. search (then-pass, if-yes, needs))
     (λ c κs. search needs)
     (λ c. search (then-pass, if-no, needs)))

@@ -1,3 +1,4 @@
+-- The first of 6, 7, 8 whose test says yes. The tests for 7 and 8 may look up both ends, since 6 has been passed.
 use borrow.Author.Needs.{needs}
 use Rattle.fault.proofs.FaultLaws.{if-yes, if-no}
 use Rattle.table.proofs.TableLaws.{rule-ends}

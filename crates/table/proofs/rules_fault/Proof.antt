@@ -1,3 +1,4 @@
+-- The loop keeps that no rule before i is at fault, so the first that it finds is the lowest. It counts up to the number of rules.
 use mathlib.Core.Path.{_≡_}
 use Prim.Native.Nat.{_≤_, _-_}
 use borrow.Author.Needs.{needs}
@@ -23,7 +24,6 @@ rules-fault-spec =
     (λ c. (search needs, first-none (ruleFault _)))
     (λ c κs. search needs)
     (λ c. search (first-found, needs))
-    (λ c. search needs)
-    (λ c. search needs)
+    (λ c. search needs) (λ c. search needs)
     (λ c. (search needs, search first-more))
     (λ c. search (first-never, needs)))

@@ -1,3 +1,4 @@
+-- More than one type is sent after the rule and was not before it: the count from `to` to `from` is over 1.
 use borrow.Author.Needs.{needs}
 use Rattle.table.specs.Refusals.{sendsTwo}
 use Rattle.table.proofs.sends_two.Statement.{statement}
@@ -8,7 +9,5 @@ unfolding sendsTwo
 sends-two-spec =
     tie.close
     (tie.spec
-    (λ c κs. search needs)
-    (λ c κs. search needs)
-    (λ c κs. search needs)
+    (λ c κs. search needs) (λ c κs. search needs) (λ c κs. search needs)
     (λ c. cc))

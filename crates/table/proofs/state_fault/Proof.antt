@@ -1,3 +1,4 @@
+-- 4 where the state is off and 0 else, as in `stateFault`.
 use borrow.Author.Needs.{needs}
 use Rattle.fault.proofs.FaultLaws.{if-yes, if-no}
 use Rattle.table.specs.Refusals.{stateFault}

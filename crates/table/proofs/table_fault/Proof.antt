@@ -1,3 +1,4 @@
+-- 1, 2 and 3 in this order. Passing all three gives the sizes that the records' checks ask for.
 use borrow.Author.Needs.{needs}
 use Rattle.fault.proofs.FaultLaws.{if-yes, if-no}
 use Rattle.table.proofs.TableLaws.{long-by, sized-by}
@@ -10,8 +11,7 @@ unfolding tableFault
 table-fault-spec =
     tie.close
     (tie.spec
-    (λ c κs. search needs)
-    (λ c κs. search needs)
+    (λ c κs. search needs) (λ c κs. search needs)
     (λ c. search (if-yes, if-no, needs))
     (λ c κs. search long-by)
     (λ c κs. search needs)

@@ -1,3 +1,4 @@
+-- The test is the definition.
 use mathlib.Core.Path.{refl}
 use Rattle.table.specs.Refusals.{tooShort}
 use Rattle.table.proofs.too_short.Statement.{statement}

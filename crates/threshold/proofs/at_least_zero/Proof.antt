@@ -1,5 +1,6 @@
+-- By the sign: a negative number gives 0, and any other is its own size, which fits 16 bits.
 use mir.Facts.{toZ-ofZ}
-use Rattle.threshold.proofs.LeastLaws.{least-negative, least-natural, least-same}
+use Rattle.threshold.proofs.LeastLaws.{least-negative, least-natural, least-size}
 use Rattle.threshold.proofs.at_least_zero.Statement.{statement}
 use Rattle.threshold.proofs.at_least_zero.Tie as tie
 
@@ -11,4 +12,4 @@ at-least-zero-spec =
     rw e (least-natural (c .before .args .z) (rw e at (c .if1 .left)) (c .before .pre)))
     (λ c. least-negative (c .before .args .z) (rw (toZ-ofZ (c .before .fits .z)) at (c .if1 .taken)))
     (λ c. let e = toZ-ofZ (c .before .fits .z) in
-    rw e (least-same (c .before .args .z) (rw e at (c .if1 .left)))))
+    rw e (least-size (c .before .args .z) (rw e at (c .if1 .left)))))

@@ -1,3 +1,4 @@
+-- Two numbers of size at most 20,000 have a sum far below 2 ^ 63, so the machine's sum is that over the integers.
 use mathlib.Core.Path.{refl}
 use native.Mathlib.Omega.{arith}
 use mir.Facts.{toZ-ofZ}

@@ -1,7 +1,8 @@
+-- A byte is under 128 in size and n at most 64, so the product is at most 8192 and doesn't wrap.
 use borrow.Author.Needs.{needs}
 use native.Mathlib.Omega.{arith}
 use mir.Facts.{toZ-ofZ}
-use Rattle.threshold.proofs.SizeLaws.{back, small, mag-mul}
+use Rattle.threshold.proofs.SizeLaws.{bits-back, small, mag-mul}
 use Rattle.threshold.proofs.scaled.Statement.{statement}
 use Rattle.threshold.proofs.scaled.Tie as tie
 
@@ -13,12 +14,12 @@ cast-result c = search needs
 
 mul-result : tie.Need-mul-result
 mul-result c =
-    rw (back (c .signed .result) (c .signed .ok), small (c .before .args .n) (omega arith))
+    rw (bits-back (c .signed .result) (c .signed .ok), small (c .before .args .n) (omega arith))
     (record { sfits = omega (arith, mag-mul (c .signed .result) (c .before .args .n) 128 64 (c .signed .ensures .1) (c .before .pre)) })
 
 returns : tie.Need-returns
 returns c =
-    rw (toZ-ofZ (mul-result c), back (c .signed .result) (c .signed .ok), small (c .before .args .n) (omega arith))
+    rw (toZ-ofZ (mul-result c), bits-back (c .signed .result) (c .signed .ok), small (c .before .args .n) (omega arith))
     (rw (c .signed .ensures .0), mag-mul (c .signed .result) (c .before .args .n) 128 64 (c .signed .ensures .1) (c .before .pre))
 
 pub scaled-spec : {M : Type 1} → statement M

@@ -1,15 +1,16 @@
+-- At level j the steps are those at the start made coarser by j - k levels; the last j is the level that is asked for.
 use Prim.Native.Nat.{_-_, _≤_}
 use native.Mathlib.Omega.{arith}
-use Rattle.translate.proofs.RecordLaws.{records-kept}
+use Rattle.schedule.proofs.RecordLaws.{records-kept}
 use Rattle.translate.proofs.WriteLaws.{Coarsened, coarsened-none, coarsened-more, coarsened-all}
 use Rattle.translate.proofs.coarsen.Statement.{statement}
 use Rattle.translate.proofs.coarsen.Tie as tie
 
 abbrev Inv-loop : tie.InvT-loop
-Inv-loop k form c steps₀ j₀ steps j = (k ≤ j) × (j ≤ form) × Coarsened k c steps₀ j steps
+Inv-loop k level c steps₀ j₀ steps j = (k ≤ j) × (j ≤ level) × Coarsened k c steps₀ j steps
 
 abbrev μ-loop : tie.MeasureT-loop
-μ-loop k form c steps₀ j₀ steps j = form - j
+μ-loop k level c steps₀ j₀ steps j = level - j
 
 pub coarsen-spec : {M : Type 1} → statement M
 coarsen-spec =

@@ -1,3 +1,4 @@
+-- The bytes below i are those of `from`; at the end these are all, since both are as long.
 use mathlib.Core.Path.{_≡_, refl, sym, _∙_}
 use Prim.Native.Nat.{ℕ, _-_, _≤_, _<_}
 use native.Mathlib.Omega.{arith}
@@ -23,10 +24,8 @@ copy-spec =
     (λ c. (omega arith, c .pre, λ j h. absurd (omega arith)))
     (λ c. c .before .loop-test .taken)
     (λ c. omega (arith, c .before .before .loop .inv .1, c .before .loop-test .taken))
-    (λ c. search needs)
-    (λ c. search needs)
-    (λ c. let a = c .before .before .before .args in
-    let l = c .before .before .loop in
+    (λ c. search needs) (λ c. search needs)
+    (λ c. let a = c .before .before .before .args in let l = c .before .before .loop in
     (omega (arith, c .before .loop-test .taken), length-set (l .to) (l .i) (getD (a .from .now) (l .i) 0) ∙ l .inv .1, fills (l .to) (a .from .now) (l .i) (getD (a .from .now) (l .i) 0) (omega (arith, l .inv .1, c .before .loop-test .taken)) (l .inv .2) refl))
     (λ c. c .before .loop .inv .1 ∙ sym (c .before .before .pre))
     (λ c. let l = c .before .loop in

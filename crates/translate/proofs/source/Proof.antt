@@ -1,12 +1,13 @@
+-- Without a message the source stays; at the levels that count the lowest in transit has the only tag; of senders the lowest of the class is looked for.
 use mathlib.Core.Path.{sym, _∙_}
 use native.Mathlib.Omega.{arith}
 use borrow.Author.Needs.{needs}
 use Rattle.senders.proofs.TallyLaws.{least-le}
-use Rattle.fault.proofs.FaultLaws.{if-yes, if-no}
 use Rattle.paper.proofs.FormLaws.{wide-some}
+use Rattle.schedule.specs.Records.{meant}
 use Rattle.words.specs.Words.{columnIn, transitIn}
 use Rattle.words.proofs.PlaceLaws.{sent-in-room}
-use Rattle.translate.proofs.StepLaws.{sources-few, source-low, two-tags, sender-low}
+use Rattle.translate.proofs.StepLaws.{source-silent, source-found, source-low, sender-low, two-tags, sources-few}
 use Rattle.translate.proofs.source.Statement.{statement}
 use Rattle.translate.proofs.source.Tie as tie
 
@@ -15,27 +16,28 @@ source-spec =
     tie.close
     (tie.spec
     (λ c κs. search needs)
-    (λ c. (search if-yes, c .before .before .before .pre .2))
-    (λ c κs. let st = c .before .before .before .before .before in
-    (st .pre .0, st .pre .3 (sym (c .before .before .before .silent .ensures) ∙ c .before .before .if1 .left) .0, st .pre .1))
-    (λ c. let st = c .before .before .before .before .before .before in
-    let a = st .args in
-    let z = st .pre .3 (sym (c .before .before .before .before .silent .ensures) ∙ c .before .before .before .if1 .left) in (
-      if-no (a .tag) (c .before .before .before .before .silent .ensures) (c .before .before .before .if1 .left) (source-low (a .s) (a .w .now) (a .p) (a .m) (a .tag) (c .before .if2 .taken) (z .1) (c .first-source .ensures)),
-      omega (arith, c .first-source .ensures, least-le (columnIn (a .s) .sources) (transitIn (a .s) (a .w .now) (a .p) (a .m)), sources-few (a .s .form) (a .s .correct) (a .s .faulty) (st .pre .0 .boards)),
+    (λ c. let st = c .before .before .before in let a = st .args in
+    (source-silent (a .s) (a .w .now) (meant (a .x)) (sym (c .before .silent .ensures) ∙ c .if1 .taken), st .pre .2))
+    (λ c κs. let quiet = c .before .before .before in let st = quiet .before .before in
+    (st .pre .0, st .pre .3 (sym (quiet .silent .ensures) ∙ c .before .before .if1 .left) .0, st .pre .1))
+    (λ c. let quiet = c .before .before .before .before in let st = quiet .before .before in let a = st .args in
+    let e = sym (quiet .silent .ensures) ∙ c .before .before .before .if1 .left in (
+      source-found (a .s) (a .w .now) (meant (a .x)) e (source-low (a .s) (a .w .now) (a .x .board) (a .x .mtype) (a .x .source) (c .before .if2 .taken) (st .pre .3 e .1) (c .first-source .ensures)),
+      omega (arith, c .first-source .ensures, least-le (columnIn (a .s) .sources) (transitIn (a .s) (a .w .now) (a .x .board) (a .x .mtype)), sources-few (a .s .level) (a .s .correct) (a .s .faulty) (st .pre .0 .boards)),
     ))
-    (λ c κs. let st = c .before .before .before .before .before in
-    (st .pre .0, st .pre .3 (sym (c .before .before .before .silent .ensures) ∙ c .before .before .if1 .left) .0))
-    (λ c κs. let st = c .before .before .before .before .before .before in
-    let l = st .pre .3 (sym (c .before .before .before .before .silent .ensures) ∙ c .before .before .before .if1 .left) .0 .type in (st .pre .0, omega (arith, l)))
+    (λ c κs. let quiet = c .before .before .before in let st = quiet .before .before in
+    (st .pre .0, st .pre .3 (sym (quiet .silent .ensures) ∙ c .before .before .if1 .left) .0))
+    (λ c κs. let quiet = c .before .before .before .before in let st = quiet .before .before in
+    (st .pre .0, omega (arith, st .pre .3 (sym (quiet .silent .ensures) ∙ c .before .before .before .if1 .left) .0 .type)))
     (λ c. search needs)
-    (λ c. let st = c .before .before .before .before .before .before .before .before in omega (arith, st .pre .1 .fits, wide-some (st .args .s .form) .0, c .before .before .cell-at .ensures .1))
-    (λ c. let st = c .before .before .before .before .before .before .before .before in
-    let l = st .pre .3 (sym (c .before .before .before .before .before .before .silent .ensures) ∙ c .before .before .before .before .before .if1 .left) .0 .type in omega (arith, l, c .before .sent-at .ensures .1, st .pre .0 .types))
-    (λ c. let st = c .before .before .before .before .before .before .before .before .before in
-    let l = st .pre .3 (sym (c .before .before .before .before .before .before .before .silent .ensures) ∙ c .before .before .before .before .before .before .if1 .left) .0 .type in omega (arith, st .pre .1 .fits, c .before .before .sent-at .ensures .0, sent-in-room (st .args .s) (st .args .m) l))
-    (λ c κs. let st = c .before .before .before .before .before .before .before .before .before in
-    let l = st .pre .3 (sym (c .before .before .before .before .before .before .before .silent .ensures) ∙ c .before .before .before .before .before .before .if1 .left) .1 in (st .pre .0 .boards, two-tags (st .args .s) (st .args .tag) (c .before .before .before .before .if2 .left) l))
-    (λ c. let st = c .before .before .before .before .before .before .before .before .before .before in
+    (λ c. let cell = c .before .before in let st = cell .before .before .before .before .before .before in
+    omega (arith, st .pre .1 .fits, wide-some (st .args .s .level) .0, cell .cell-at .ensures .1))
+    (λ c. let sent = c .before in let quiet = sent .before .before .before .before .before in let st = quiet .before .before in
+    omega (arith, st .pre .3 (sym (quiet .silent .ensures) ∙ sent .before .before .before .before .if1 .left) .0 .type, sent .sent-at .ensures .1, st .pre .0 .types))
+    (λ c. let sent = c .before .before in let quiet = sent .before .before .before .before .before in let st = quiet .before .before in
+    omega (arith, st .pre .1 .fits, sent .sent-at .ensures .0, sent-in-room (st .args .s) (st .args .x .mtype) (st .pre .3 (sym (quiet .silent .ensures) ∙ sent .before .before .before .before .if1 .left) .0 .type)))
+    (λ c κs. let sent = c .before .before in let quiet = sent .before .before .before .before .before in let st = quiet .before .before in
+    (st .pre .0 .boards, two-tags (st .args .s) (st .args .x .source) (sent .before .before .if2 .left) (st .pre .3 (sym (quiet .silent .ensures) ∙ sent .before .before .before .before .if1 .left) .1)))
+    (λ c. let sent = c .before .before .before in let cell = sent .before in let quiet = cell .before .before .before .before in let st = quiet .before .before in
     let a = st .args in
-    (if-no (a .tag) (c .before .before .before .before .before .before .before .before .silent .ensures) (c .before .before .before .before .before .before .before .if1 .left) (sender-low (a .s) (a .w .now) (a .p) (a .m) (a .tag) (c .before .before .before .before .before .if2 .left) (c .before .before .before .before .cell-at .ensures .0) (c .before .before .before .sent-at .ensures .0) (c .lowest-of .ensures .0)), omega (arith, c .lowest-of .ensures .1))))
+    (source-found (a .s) (a .w .now) (meant (a .x)) (sym (quiet .silent .ensures) ∙ cell .before .before .before .if1 .left) (sender-low (a .s) (a .w .now) (a .x .board) (a .x .mtype) (a .x .source) (cell .before .if2 .left) (cell .cell-at .ensures .0) (sent .sent-at .ensures .0) (c .lowest-of .ensures .0)), omega (arith, c .lowest-of .ensures .1))))

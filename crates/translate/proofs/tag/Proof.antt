@@ -1,7 +1,10 @@
-use borrow.Author.Needs.{needs}
+-- Without a message the source stays; with one, the three cases of the tag are those of the definition.
+use mathlib.Core.Path.{sym, _∙_}
 use native.Mathlib.Omega.{arith}
+use borrow.Author.Needs.{needs}
 use Rattle.fault.proofs.FaultLaws.{if-yes, if-no}
-use Rattle.translate.proofs.StepLaws.{tag-none, tag-zero, tag-one}
+use Rattle.schedule.specs.Records.{meant}
+use Rattle.translate.proofs.StepLaws.{tag-source, tag-none, tag-zero, tag-one}
 use Rattle.translate.proofs.tag.Statement.{statement}
 use Rattle.translate.proofs.tag.Tie as tie
 
@@ -10,11 +13,11 @@ tag-spec =
     tie.close
     (tie.spec
     (λ c κs. search needs)
-    (λ c. search needs)
-    (λ c. search if-yes)
-    (λ c. let a = c .before .before .before .args in
-    if-no (a .q) (c .before .before .silent .ensures) (c .before .if1 .left) (tag-none (a .j) (a .c) (a .q) (c .if2 .taken)))
-    (λ c. let a = c .before .before .before .before .args in
-    if-no (a .q) (c .before .before .before .silent .ensures) (c .before .before .if1 .left) (tag-zero (a .j) (a .c) (a .q) (c .before .if2 .left) (c .if3 .taken)))
-    (λ c. let a = c .before .before .before .before .args in
-    if-no (a .q) (c .before .before .before .silent .ensures) (c .before .before .if1 .left) (tag-one (a .j) (a .c) (a .q) (c .before .if2 .left) (omega (arith, c .if3 .left)))))
+    (λ c. let st = c .before .before in let a = st .args in
+    (search if-yes ∙ sym (tag-source (a .j) (a .c) (meant (a .x))), st .pre))
+    (λ c. let st = c .before .before .before in let a = st .args in
+    (if-no (a .x .source) (c .before .before .silent .ensures) (c .before .if1 .left) (tag-none (a .j) (a .c) (a .x .source) (c .if2 .taken)) ∙ sym (tag-source (a .j) (a .c) (meant (a .x))), omega arith))
+    (λ c. let st = c .before .before .before .before .before in let a = st .args in
+    (if-no (a .x .source) (c .before .before .before .before .silent .ensures) (c .before .before .before .if1 .left) (tag-zero (a .j) (a .c) (a .x .source) (c .before .before .if2 .left) (c .if3 .taken)) ∙ sym (tag-source (a .j) (a .c) (meant (a .x))), omega arith))
+    (λ c. let st = c .before .before .before .before .before in let a = st .args in
+    (if-no (a .x .source) (c .before .before .before .before .silent .ensures) (c .before .before .before .if1 .left) (tag-one (a .j) (a .c) (a .x .source) (c .before .before .if2 .left) (omega (arith, c .if3 .left))) ∙ sym (tag-source (a .j) (a .c) (meant (a .x))), omega arith)))

@@ -1,5 +1,10 @@
+-- The record is read, and its source replaced by the tag of that very step.
+use mathlib.Core.Path.{ap, _∙_}
+use Prim.Native.Nat.{_+_, _*_}
 use borrow.Author.Needs.{needs}
-use Rattle.translate.proofs.StepLaws.{tag-set}
+use lib.ListN.{set}
+use Rattle.paper.specs.Paper.{Step}
+use Rattle.agree.specs.Translation.{tagBy}
 use Rattle.translate.proofs.tag_at.Statement.{statement}
 use Rattle.translate.proofs.tag_at.Tie as tie
 
@@ -7,14 +12,6 @@ pub tag-at-spec : {M : Type 1} → statement M
 tag-at-spec =
     tie.close
     (tie.spec
-    (λ c. search needs)
-    (λ c. search needs)
-    (λ c κs. search needs)
-    (λ c. search needs)
-    (λ c κs. search needs)
-    (λ c κs. search needs)
-    (λ c. search needs)
-    (λ c. search needs)
-    (λ c. search needs)
-    (λ c. let a = c .before .before .before .before .before .before .args in
-    tag-set (a .j) (a .c) (a .steps .now) (a .i) (c .before .before .before .byte-at .ensures .0) (c .before .byte-at2 .ensures .0) (c .tag .ensures)))
+    (λ c κs. search needs) (λ c κs. search needs) (λ c κs. search needs) (λ c. search needs)
+    (λ c. let done = c .before .before in let tagged = done .before .before in let read = tagged .before in let st = read .before .before .before in let a = st .args in
+    done .set-source .ensures ∙ ap (set (a .steps .now) (a .i * 4 + 3)) (tagged .tag .ensures .0 ∙ ap (λ (x : Step). tagBy (a .j) (a .c) x .source) (read .step-at .ensures .0))))

@@ -1,3 +1,4 @@
+-- It is the translation to the usual form, which is how the definition has it.
 use mathlib.Core.Path.{ap, _∙_}
 use Prim.Native.Nat.{ℕ}
 use lib.ListN.{length}
@@ -10,11 +11,9 @@ pub translate-spec : {M : Type 1} → statement M
 translate-spec =
     tie.close
     (tie.spec
-    (λ c κs. search needs)
-    (λ c κs. search needs)
-    (λ c. search needs)
-    (λ c. let a = c .before .before .before .before .before .before .before .before .args in
-    let e = c .before .before .before .before .usual-form .ensures in (
+    (λ c κs. search needs) (λ c κs. search needs) (λ c. search needs)
+    (λ c. let usual = c .before .before .before .before in let a = usual .before .before .before .before .args in
+    let e = usual .usual-form .ensures in (
       c .before .before .translate-to .ensures .0 ∙ ap (λ (k : ℕ). translateToAnswer (a .bundle .now) (a .standing .now) k (length (a .out .now))) e,
       c .before .before .translate-to .ensures .1 ∙ ap (λ (k : ℕ). translateToBytes (a .bundle .now) (a .standing .now) k (a .out .now)) e,
     )))

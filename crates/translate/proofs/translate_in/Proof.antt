@@ -1,8 +1,6 @@
-use mathlib.Core.Path.{sym, _∙_}
-use lib.ListN.{length}
+-- The run decides: a refusal is answered as it is, and else the translation is written.
 use borrow.Author.Needs.{needs}
-use Rattle.engine.proofs.EntryLaws.{suits, answer-number}
-use Rattle.translate.proofs.EntryLaws.{done-refused, done-written}
+use Rattle.translate.proofs.EntryLaws.{done-refused, done-runs, done-written, runs-by}
 use Rattle.translate.proofs.translate_in.Statement.{statement}
 use Rattle.translate.proofs.translate_in.Tie as tie
 
@@ -10,22 +8,16 @@ pub translate-in-spec : {M : Type 1} → statement M
 translate-in-spec =
     tie.close
     (tie.spec
-    (λ c κs. search needs)
-    (λ c κs. let st = c .before .before .before .before .before .before .before .before .before in
-    (suits (st .args .table .now) (st .args .bundle .now) (st .pre .0) (c .before .before .sizes-of .ensures), st .pre .2, st .pre .3))
-    (λ c κs. let st = c .before .before .before .before .before .before .before .before .before .before .before .before .before .before .before .before .before in
-    (st .pre .0, c .before .before .before .before .before .before .before .before .before .before .sizes-of .ensures, c .before .before .before .before .before .before .before .keep .ensures, st .pre .4))
+    (λ c κs. let st = c .before .before .before .before .before .before in
+    (st .pre .0, st .pre .1, st .pre .2 .kept .ends .long, st .pre .2 .kept .leasts .long, st .pre .4))
     (λ c. search needs)
-    (λ c. search needs)
-    (λ c. search needs)
-    (λ c. let a = c .before .before .before .before .before .before .before .before .before .before .before .before .before .before .before .before .before .before .before .before .before .before .args in
-    let D = done-refused (a .table .now) (a .bundle .now) (a .out .now) (a .form) (length (a .bundle .now)) (c .before .before .before .before .run-own .ensures .0) (c .if1 .taken) in (D .answer, D .bytes))
-    (λ c κs. let st = c .before .before .before .before .before .before .before .before .before .before .before .before .before .before .before .before .before .before .before .before .before .before .before .before .before in
-    (st .pre .0, st .pre .1, c .before .before .before .before .before .before .before .before .before .before .before .before .before .before .before .before .before .before .sizes-of .ensures, c .before .before .before .before .before .before .before .before .before .before .before .before .before .before .before .keep .ensures .ends, c .before .before .before .before .before .before .before .run-own .ensures .1, st .pre .5, sym (answer-number (st .args .table .now) (st .args .bundle .now) (c .before .before .before .before .before .before .before .run-own .ensures .0)) ∙ c .before .before .before .if1 .left))
-    (λ c κs. search needs)
-    (λ c. search needs)
-    (λ c. search needs)
-    (λ c. search needs)
-    (λ c. search needs)
-    (λ c. let a = c .before .before .before .before .before .before .before .before .before .before .before .before .before .before .before .before .before .before .before .before .before .before .before .before .before .before .before .before .before .before .before .args in
-    let D = done-written (a .table .now) (a .bundle .now) (a .out .now) (a .form) (length (a .bundle .now)) (c .before .before .before .before .before .before .before .before .before .before .before .before .before .run-own .ensures .0) (c .before .before .before .before .before .before .before .before .before .if1 .left) (c .answered .ensures) (c .before .before .before .before .before .write .ensures) in (D .answer, D .bytes)))
+    (λ c. let ran = c .before .before .before .before in let st = ran .before .before .before .before .before .before .before in let a = st .args in
+    λ F. done-refused (a .s) (a .bundle .now) (F .design) (a .form) (a .out .now) (ran .run-own .ensures .0 (F .design) (F .kept)) (c .if1 .taken))
+    (λ c κs. let ran = c .before .before .before .before .before .before in let st = ran .before .before .before .before .before .before .before in let a = st .args in
+    let F = st .pre .2 in
+    (st .pre .0, st .pre .1, runs-by F (done-runs (a .s) (a .bundle .now) (F .design) (a .form) (a .out .now) (ran .run-own .ensures .0 (F .design) (F .kept)) (c .before .before .if1 .left)), st .pre .3, ran .run-own .ensures .1, st .pre .5))
+    (λ c κs. search needs) (λ c. search needs) (λ c. search needs)
+    (λ c. let wrote = c .before .before .before .before .before in let ran = wrote .before .before .before .before .before .before .before in
+    let st = ran .before .before .before .before .before .before .before in let a = st .args in
+    λ F. let z = wrote .before .before .before .if1 .left in
+    done-written (a .s) (a .bundle .now) (F .design) (a .form) (a .out .now) (ran .run-own .ensures .0 (F .design) (F .kept)) z (c .answered .ensures) (wrote .write .ensures (runs-by F (done-runs (a .s) (a .bundle .now) (F .design) (a .form) (a .out .now) (ran .run-own .ensures .0 (F .design) (F .kept)) z)))))

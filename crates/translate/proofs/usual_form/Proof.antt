@@ -1,3 +1,4 @@
+-- Form 1 goes to 0 and every other to 1; bytes too few for a trailer count as another.
 use mathlib.Core.Path.{refl, sym, _∙_}
 use borrow.Author.Needs.{needs}
 use borrow.Author.Tests.{eq-eqb, ne-eqb}

@@ -1,13 +1,12 @@
-use mathlib.Core.Path.{subst⁻¹, ap, _∙_}
+-- The walk begins with the bundle's own first words.
+use mathlib.Core.Path.{ap, _∙_, subst, subst⁻¹}
+use borrow.Author.Needs.{needs}
 use mathlib.Core.List.{List}
 use Prim.Native.Nat.{ℕ}
-use borrow.Author.Needs.{needs}
-use Rattle.paper.specs.Run.{stepsIn}
-use Rattle.agree.specs.Translation.{lowAll}
-use Rattle.rules.specs.Design.{designOf}
-use Rattle.translate.specs.Written.{bytesOf}
-use Rattle.translate.specs.Facts.{RunsLow}
-use Rattle.translate.proofs.ReadLaws.{in-suits, in-starts, in-start, in-holds}
+use Rattle.paper.specs.Words.{start}
+use Rattle.paper.specs.Form.{wide}
+use Rattle.engine.proofs.EntryLaws.{starts-long}
+use Rattle.translate.specs.Facts.{RunsLow, LowersTo}
 use Rattle.translate.proofs.write_from_start.Statement.{statement}
 use Rattle.translate.proofs.write_from_start.Tie as tie
 
@@ -16,14 +15,14 @@ write-from-start-spec =
     tie.close
     (tie.spec
     (λ c κs. search needs)
-    (λ c κs. let st = c .before .before .before .before .before .before .before in
-    (in-starts (st .args .table .now) (st .args .bundle .now) (st .pre .0) (st .pre .1) (c .before .starts .ensures), st .pre .3))
-    (λ c κs. let st = c .before .before .before .before .before .before .before .before .before .before .before .before in
+    (λ c κs. let starts = c .before in let st = starts .before .before .before .before .before in
+    (starts-long (st .args .s) (st .args .bundle .now) (st .pre .0) (starts .starts .ensures), st .pre .2))
+    (λ c κs. let begun = c .before .before .before .before in let starts = begun .before .before in let st = starts .before .before .before .before .before in
     let a = st .args in
-    let w = in-start (a .table .now) (a .bundle .now) (st .pre .0) (st .pre .1) (c .before .before .before .before .before .before .starts .ensures) (c .before .before .before .before .begin .ensures) in
-    (in-suits (a .table .now) (a .bundle .now) (st .pre .0) (st .pre .1), st .pre .2, in-holds (a .table .now) (a .bundle .now) (st .pre .0) (st .pre .1) (c .before .before .before .before .before .before .starts .ensures) (c .before .before .before .before .begin .ensures), st .pre .4, subst⁻¹ (λ (v : List ℕ). RunsLow (a .s) (a .table .now) v (a .steps .now)) w (st .pre .5)))
-    (λ c. search needs)
-    (λ c. search needs)
-    (λ c. let st = c .before .before .before .before .before .before .before .before .before .before .before .before .before .before .before .before .before in
-    let a = st .args in
-    c .before .before .before .before .write-along .ensures ∙ ap (λ (v : List ℕ). bytesOf (lowAll (a .s .form) (designOf (a .s) (a .table .now)) v (stepsIn (a .steps .now)))) (in-start (a .table .now) (a .bundle .now) (st .pre .0) (st .pre .1) (c .before .before .before .before .before .before .before .before .before .before .before .starts .ensures) (c .before .before .before .before .before .before .before .before .before .begin .ensures))))
+    let w = begun .begin .ensures .0 ∙ ap (start (a .s .types) (wide (a .s .level))) (starts .starts .ensures) in
+    (st .pre .1, begun .begin .ensures .1, st .pre .3, subst⁻¹ (λ (v : List ℕ). RunsLow (a .s) (a .ends .now) v (a .steps .now)) w (st .pre .4)))
+    (λ c. search needs) (λ c. search needs)
+    (λ c. let done = c .before .before .before .before in let begun = done .before .before .before .before .before in let starts = begun .before .before in
+    let st = starts .before .before .before .before .before in let a = st .args in
+    let w = begun .begin .ensures .0 ∙ ap (start (a .s .types) (wide (a .s .level))) (starts .starts .ensures) in
+    subst (λ (v : List ℕ). LowersTo (a .s) (a .ends .now) v (a .steps .now) (done .write-along .last .1 .1 .1 .0)) w (done .write-along .ensures)))

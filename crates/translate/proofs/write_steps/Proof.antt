@@ -1,11 +1,15 @@
-use mathlib.Core.Path.{sym, ap, _∙_}
+-- One of the two walks does all: the other has no level to go over.
+use mathlib.Core.Path.{ap, ap₂, sym, _∙_}
+use mathlib.Core.List.{List}
+use Prim.Native.Nat.{ℕ, _-_}
 use native.Mathlib.Omega.{arith}
 use borrow.Author.Needs.{needs}
-use Rattle.paper.specs.Run.{stepsIn}
-use Rattle.agree.proofs.Runs.{coarser-only, finer-only}
-use Rattle.rules.specs.Design.{designOf}
-use Rattle.engine.proofs.EntryLaws.{steps-few}
-use Rattle.translate.specs.Written.{bytesOf, beginOf}
+use Rattle.agree.specs.Translation.{coarser}
+use Rattle.agree.proofs.Runs.{finer-only, coarser-only}
+use Rattle.schedule.specs.Records.{stepsIn, bytesOf}
+use Rattle.engine.specs.Entry.{scheduleOf}
+use Rattle.engine.proofs.EntryLaws.{whole-steps}
+use Rattle.translate.specs.Written.{beginOf}
 use Rattle.translate.proofs.write_steps.Statement.{statement}
 use Rattle.translate.proofs.write_steps.Tie as tie
 
@@ -13,15 +17,14 @@ pub write-steps-spec : {M : Type 1} → statement M
 write-steps-spec =
     tie.close
     (tie.spec
-    (λ c κs. let st = c .before .before .before .before .before .before .before .before .before in
-    (st .pre .0, omega (arith, c .before .before .if1 .taken), st .pre .2, st .pre .3, st .pre .4, st .pre .5, st .pre .6))
+    (λ c κs. let near = c .before .before .before .before .before .before in let st = near .before .before in
+    (st .pre .0, st .pre .1, st .pre .2, omega (arith, c .before .before .if1 .taken), st .pre .4, st .pre .5))
+    (λ c. search needs) (λ c. search needs)
+    (λ c. let done = c .before .before .before .before in let near = done .before .before .before .before .before .before in let st = near .before .before .before in
+    let a = st .args in
+    λ T. done .refine .ensures T ∙ ap bytesOf (sym (finer-only (T .design) (beginOf (a .s) (a .bundle .now)) (a .s .level) (scheduleOf (a .bundle .now)) (a .level) (omega (arith, done .before .before .before .if1 .taken)))))
+    (λ c κs. let st = c .before .before .before .before .before .before .before in
+    (omega (arith, c .before .if1 .left), st .pre .3, whole-steps (st .args .s) (st .args .bundle .now) (st .pre .0) (st .pre .5)))
     (λ c. search needs)
-    (λ c. search needs)
-    (λ c. let a = c .before .before .before .before .before .before .before .before .before .before .before .before .before .before .args in
-    c .before .before .before .before .refine .ensures ∙ ap bytesOf (sym (finer-only (designOf (a .s) (a .table .now)) (beginOf (a .table .now) (a .bundle .now)) (a .s .form) (stepsIn (a .steps .now)) (a .form) (omega (arith, c .before .before .before .before .before .before .before .if1 .taken)))))
-    (λ c κs. let st = c .before .before .before .before .before .before .before .before in
-    let f = steps-few (st .args .table .now) (st .args .bundle .now) (st .pre .0) (st .pre .5) in
-    (omega (arith, c .before .if1 .left), st .pre .1, record { few = f .0; whole = f .1 }))
-    (λ c. search needs)
-    (λ c. let a = c .before .before .before .before .before .before .before .before .before .before .before .args in
-    c .before .before .coarsen .ensures ∙ ap bytesOf (sym (coarser-only (designOf (a .s) (a .table .now)) (beginOf (a .table .now) (a .bundle .now)) (a .s .form) (stepsIn (a .steps .now)) (a .form) (omega (arith, c .before .before .before .before .if1 .left))))))
+    (λ c. let done = c .before .before in let near = done .before .before .before .before .before .before in let st = near .before .before in let a = st .args in
+    λ T. done .coarsen .ensures ∙ ap₂ (λ (c : ℕ) (x : List ℕ). bytesOf (coarser (a .level - a .s .level) (a .s .level) c (stepsIn x))) (sym (T .kept .numbers .boards)) (st .pre .5) ∙ ap bytesOf (sym (coarser-only (T .design) (beginOf (a .s) (a .bundle .now)) (a .s .level) (scheduleOf (a .bundle .now)) (a .level) (omega (arith, done .before .before .if1 .left))))))

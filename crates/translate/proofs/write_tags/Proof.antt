@@ -1,3 +1,4 @@
+-- After i turns the first i records have their tags and the rest are as they were; at the end all have them.
 use mathlib.Core.Path.{sym, _∙_}
 use Prim.Native.Nat.{_/_, _-_, _≤_}
 use native.Mathlib.Omega.{arith}

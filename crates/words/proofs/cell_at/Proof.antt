@@ -1,3 +1,4 @@
+-- The kept row and width make the sum the definition's; a board and a type that there are keep the cell inside the words.
 use native.Mathlib.Omega.{arith}
 use Rattle.words.proofs.PlaceLaws.{row-at-few, cell-few, cell-is, cell-inside}
 use Rattle.words.proofs.cell_at.Statement.{statement}

@@ -1,7 +1,8 @@
+-- The cell's two words and the sent word show what was received and sent; the level decides by these.
 use mathlib.Core.Path.{ap, ap₂, _∙_}
 use native.Mathlib.Omega.{arith}
 use borrow.Author.Needs.{needs}
-use Rattle.words.proofs.FormCases.{source-few}
+use Rattle.words.proofs.LevelCases.{source-few}
 use Rattle.words.proofs.PlaceLaws.{coll-words, sent-in-room, sent-word}
 use Rattle.words.specs.Words.{columnIn}
 use Rattle.paper.proofs.FormLaws.{wide-some}
@@ -13,23 +14,16 @@ pub in-transit-spec : {M : Type 1} → statement M
 in-transit-spec =
     tie.close
     (tie.spec
-    (λ c κs. search needs)
-    (λ c κs. search needs)
-    (λ c κs. search needs)
+    (λ c κs. search needs) (λ c κs. search needs) (λ c κs. search needs) (λ c. search needs)
+    (λ c. let st = c .before .before .before .before .before in let a = st .args in
+    omega (arith, st .pre .3 .fits, wide-some (a .s .level) .0, c .before .before .before .cell-at .ensures .1))
     (λ c. search needs)
-    (λ c. let st = c .before .before .before .before .before in
-    let a = st .args in
-    omega (arith, st .pre .3 .fits, wide-some (a .s .form) .0, c .before .before .before .cell-at .ensures .1))
-    (λ c. search needs)
-    (λ c. let st = c .before .before .before .before .before .before in
-    let a = st .args in
+    (λ c. let st = c .before .before .before .before .before .before in let a = st .args in
     omega (arith, st .pre .3 .fits, c .before .before .before .last-of .ensures .1, c .before .before .before .before .cell-at .ensures .1))
     (λ c. search needs)
-    (λ c. let st = c .before .before .before .before .before .before .before in
-    let a = st .args in
+    (λ c. let st = c .before .before .before .before .before .before .before in let a = st .args in
     omega (arith, st .pre .3 .fits, c .before .before .before .sent-at .ensures .0, sent-in-room (a .s) (a .m) (st .pre .1 .type)))
-    (λ c κs. let st = c .before .before .before .before .before .before .before in
-    let a = st .args in
-    ((source-few (a .s .form) (a .s .correct) (a .s .faulty) (a .q) (st .pre .0 .boards) (st .pre .2 .below), st .pre .0 .boards, st .pre .0 .wide), λ ne. st .pre .3 .small ne _))
-    (λ c. let a = c .before .before .before .before .before .before .before .before .args in
-    c .in-transit .ensures ∙ ap₂ (columnIn (a .s) .inTransit (a .q)) (coll-words (a .s .form) (a .s .correct) (a .s .faulty) (a .s .types) (a .p) (a .m) (a .w .now) (c .before .before .before .before .before .before .cell-at .ensures .0) (c .before .before .before .before .before .last-of .ensures .0)) (ap (shown (a .s .form) (a .s .correct) (a .s .faulty)) (sent-word (a .s .correct) (a .s .types) (wide (a .s .form)) (a .m) (a .w .now) (c .before .before .before .before .sent-at .ensures .0)))))
+    (λ c κs. let st = c .before .before .before .before .before .before .before in let a = st .args in
+    ((source-few (a .s .level) (a .s .correct) (a .s .faulty) (a .q) (st .pre .0 .boards) (st .pre .2 .below), st .pre .0 .boards, st .pre .0 .wide), λ ne. st .pre .3 .small ne _))
+    (λ c. let placed = c .before .before .before .before in let a = placed .before .before .before .before .args in
+    c .in-transit .ensures ∙ ap₂ (columnIn (a .s) .inTransit (a .q)) (coll-words (a .s .level) (a .s .correct) (a .s .faulty) (a .s .types) (a .p) (a .m) (a .w .now) (placed .before .before .cell-at .ensures .0) (placed .before .last-of .ensures .0)) (ap (shown (a .s .level) (a .s .correct) (a .s .faulty)) (sent-word (a .s .correct) (a .s .types) (wide (a .s .level)) (a .m) (a .w .now) (placed .sent-at .ensures .0)))))

@@ -1,3 +1,4 @@
+-- The sent words stand last: the place of the first and the number of types come to the size.
 use native.Mathlib.Omega.{arith}
 use borrow.Author.Needs.{needs}
 use Rattle.words.proofs.PlaceLaws.{room-is}
@@ -8,8 +9,6 @@ pub room-spec : {M : Type 1} → statement M
 room-spec =
     tie.close
     (tie.spec
-    (λ c κs. search needs)
-    (λ c. search needs)
-    (λ c. let st = c .before .before in
-    let a = st .args in
+    (λ c κs. search needs) (λ c. search needs)
+    (λ c. let st = c .before .before in let a = st .args in
     (rw (c .before .sent-at .ensures .0) (room-is (a .s)), omega (arith, st .pre .types))))

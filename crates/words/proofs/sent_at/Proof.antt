@@ -1,3 +1,4 @@
+-- The kept row is as many words as a board's cells have, so that the sum is the definition's; the bounds keep it small.
 use native.Mathlib.Omega.{arith}
 use Rattle.words.proofs.PlaceLaws.{rows-few, rows-are}
 use Rattle.paper.specs.Words.{sentAt}

@@ -1,13 +1,14 @@
+-- The loop keeps that the reader stands at a line, or is stuck or at the end. Each line takes at least a byte or ends the reading, so `ahead` falls.
 use mathlib.Core.Path.{_≡_, refl}
 use lib.ListN.{length}
 use native.Mathlib.Omega.{arith}
 use borrow.Author.Needs.{needs}
-use Rattle.drawing.proofs.LineLaws.{Stands, lines-begin, lines-go-on, lines-end, lines-less, free, ahead}
+use Rattle.drawing.proofs.LineLaws.{AtLine, lines-begin, lines-go-on, lines-end, lines-less, free, ahead}
 use Rattle.drawing.proofs.lines.read.Statement.{statement}
 use Rattle.drawing.proofs.lines.read.Tie as tie
 
 abbrev Inv-loop : tie.InvT-loop
-Inv-loop text out₀ g₀ out g = (Stands text g out) × (length out ≡ length out₀)
+Inv-loop text out₀ g₀ out g = (AtLine text g out) × (length out ≡ length out₀)
 
 abbrev μ-loop : tie.MeasureT-loop
 μ-loop text out₀ g₀ out g = ahead text g

@@ -1,3 +1,4 @@
+-- The arrow's two names and the label's numbers are the rule's bytes, put after those made before. The sums fit, since a text has a byte or more for each.
 use mathlib.Core.Path.{refl}
 use native.Mathlib.Omega.{arith}
 use borrow.Author.Needs.{needs}
@@ -9,15 +10,21 @@ pub rule-line-spec : {M : Type 1} → statement M
 rule-line-spec =
     tie.close
     (tie.spec
+    (λ c κs. search needs) (λ c. search needs) (λ c κs. search needs) (λ c. search needs) (λ c. search needs)
     (λ c κs. search needs)
+    (λ c. let label = c .before .before .before in let follow = label .before .before .before .before in let ends = follow .before .before .before .before in
+    let start = ends .before .before .before .before in
+    omega (arith, start .pre .0, start .pre .1, start .pre .3 .bytes-fit, start .pre .3 .lines-fit, start .pre .3 .few, start .good .0 .1))
+    (λ c. let label = c .before .before .before .before in let follow = label .before .before .before .before in let ends = follow .before .before .before .before in
+    let start = ends .before .before .before .before in
+    omega (arith, start .pre .0, start .pre .1, start .pre .3 .bytes-fit, start .pre .3 .lines-fit, start .pre .3 .few, start .good .0 .1))
+    (λ c. let label = c .before .before .before .before .before in let follow = label .before .before .before .before in
+    let ends = follow .before .before .before .before in let start = ends .before .before .before .before in
+    omega (arith, start .pre .0, start .pre .1, start .pre .3 .bytes-fit, start .pre .3 .lines-fit, start .pre .3 .few, start .good .0 .1))
+    (λ c. let label = c .before .before .before .before .before in let follow = label .before .before .before .before in
+    let ends = follow .before .before .before .before in let start = ends .before .before .before .before in
+    omega (arith, start .pre .0, start .pre .1, start .pre .3 .bytes-fit, start .pre .3 .lines-fit, start .pre .3 .few, start .good .0 .1))
     (λ c. search needs)
-    (λ c κs. search needs)
-    (λ c. search needs)
-    (λ c. search needs)
-    (λ c κs. search needs)
-    (λ c. let s = c .before .before .before .before .before .before .before .before .before .before .before .before .before .before .before in omega (arith, s .pre .0, s .pre .1, s .pre .3 .bytes-fit, s .pre .3 .lines-fit, s .pre .3 .few, s .good .0 .1))
-    (λ c. let s = c .before .before .before .before .before .before .before .before .before .before .before .before .before .before .before .before in omega (arith, s .pre .0, s .pre .1, s .pre .3 .bytes-fit, s .pre .3 .lines-fit, s .pre .3 .few, s .good .0 .1))
-    (λ c. let s = c .before .before .before .before .before .before .before .before .before .before .before .before .before .before .before .before .before in omega (arith, s .pre .0, s .pre .1, s .pre .3 .bytes-fit, s .pre .3 .lines-fit, s .pre .3 .few, s .good .0 .1))
-    (λ c. let s = c .before .before .before .before .before .before .before .before .before .before .before .before .before .before .before .before .before in omega (arith, s .pre .0, s .pre .1, s .pre .3 .bytes-fit, s .pre .3 .lines-fit, s .pre .3 .few, s .good .0 .1))
-    (λ c. search needs)
-    (λ c. let s = c .before .before .before .before .before .before .before .before .before .before .before .before .before .before .before .before .before in rule-read _ _ (s .pre .1) (s .pre .3) (c .before .before .before .before .before .before .before .before .before .before .before .before .before .ends .ensures) (c .before .before .before .before .before .before .before .before .before .follow .ensures) refl (c .before .before .before .before .before .label .ensures)))
+    (λ c. let label = c .before .before .before .before .before in let follow = label .before .before .before .before in
+    let ends = follow .before .before .before .before in let start = ends .before .before .before .before in
+    rule-read _ _ (start .pre .1) (start .pre .3) (ends .ends .ensures) (follow .follow .ensures) refl (label .label .ensures)))

@@ -1,3 +1,4 @@
+-- The label's two numbers are the state's bytes, put after those made before; reading goes on where the label's plan ends.
 use mathlib.Core.Path.{ap}
 use Prim.Native.Nat.{_-_}
 use lib.ListN.{length}
@@ -14,7 +15,5 @@ state-line-spec =
     (tie.spec
     (λ c κs. search needs)
     (λ c κs. (omega (arith, ap (λ (z : Cursor). z .place) (c .before .stand .ensures), c .before .before .before .before .pre .0), omega arith, omega (arith, c .before .before .before .before .pre .2 .bytes-fit, c .before .before .before .before .pre .1, c .before .before .before .before .pre .0, c .before .before .before .before .good .0 .1)))
-    (λ c. search needs)
-    (λ c. search needs)
-    (λ c. search needs)
+    (λ c. search needs) (λ c. search needs) (λ c. search needs)
     (λ c. search state-read))

@@ -1,3 +1,4 @@
+-- By the code: one that asks for a blank, and any other, which asks for itself.
 use borrow.Author.Needs.{needs}
 use Rattle.drawing.proofs.PlanLaws.{asked-blank, asked-byte}
 use Rattle.drawing.proofs.pieces.asks.Statement.{statement}

@@ -1,3 +1,4 @@
+-- The test of the byte is `isDigit`; the rest is literal.
 use borrow.Author.Needs.{needs}
 use Rattle.drawing.proofs.pieces.begins.Statement.{statement}
 use Rattle.drawing.proofs.pieces.begins.Tie as tie

@@ -1,3 +1,4 @@
+-- By the sign. A number below 0 is at least 1 in size, so its byte is below 256.
 use mathlib.Core.Path.{refl}
 use native.Mathlib.Omega.{arith}
 use borrow.Author.Needs.{needs}

@@ -1,3 +1,4 @@
+-- A first digit begins a number, whose rest is read on; without one no drawing goes on here.
 use native.Mathlib.Omega.{arith}
 use borrow.Author.Needs.{needs}
 use Rattle.drawing.proofs.DigitLaws.{First, first-digit, digits-begin, digits-none}
@@ -8,9 +9,7 @@ pub digits-spec : {M : Type 1} → statement M
 digits-spec =
     tie.close
     (tie.spec
-    (λ c κs. search needs)
-    (λ c κs. search needs)
-    (λ c. search needs)
+    (λ c κs. search needs) (λ c κs. search needs) (λ c. search needs)
     (λ c. first-digit _ _ (c .before .before .before .before .args .negative) (c .before .before .peek .ensures .0) (c .before .begins .ensures) (c .if1 .taken) .least)
     (λ c κs. let f = first-digit _ _ (c .before .before .before .before .args .negative) (c .before .before .peek .ensures .0) (c .before .begins .ensures) (c .if1 .taken) in (f .there, f .size, f .positive))
     (λ c. search digits-begin)

@@ -1,3 +1,4 @@
+-- The loop keeps that reading the whole plan comes to reading, from here, what is left of it after j codes.
 use Prim.Native.Nat.{_-_}
 use borrow.Author.Needs.{needs}
 use Rattle.drawing.proofs.PlanLaws.{Going, plan-begins, plan-goes-on, plan-ends}
@@ -17,9 +18,6 @@ follow-spec =
     Inv-loop
     μ-loop
     (λ c. search (plan-begins, needs))
-    (λ c κs. search needs)
-    (λ c κs. search needs)
-    (λ c. search needs)
-    (λ c. search needs)
+    (λ c κs. search needs) (λ c κs. search needs) (λ c. search needs) (λ c. search needs)
     (λ c. search plan-goes-on)
     (λ c. search (plan-ends, needs)))

@@ -1,3 +1,4 @@
+-- A byte that is no digit never goes on with a number, and for a digit the two tests are those of `goesOn`.
 use borrow.Author.Needs.{needs}
 use Rattle.drawing.proofs.DigitLaws.{digit-least, goes-on-digit, goes-on-other}
 use Rattle.drawing.proofs.pieces.grows.Statement.{statement}
@@ -7,8 +8,7 @@ pub grows-spec : {M : Type 1} → statement M
 grows-spec =
     tie.close
     (tie.spec
-    (λ c κs. search needs)
-    (λ c. search needs)
+    (λ c κs. search needs) (λ c. search needs)
     (λ c. search digit-least)
     (λ c. search needs)
     (λ c. search goes-on-digit)

@@ -1,3 +1,4 @@
+-- The tests are those of `isBlank`.
 use mathlib.Core.Path.{refl}
 use Rattle.dot.specs.Text.{isBlank}
 use Rattle.drawing.proofs.pieces.is_blank.Statement.{statement}

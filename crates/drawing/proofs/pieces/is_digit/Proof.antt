@@ -1,3 +1,4 @@
+-- The tests are those of `isDigit`.
 use Rattle.dot.specs.Reading.{isDigit}
 use Rattle.drawing.proofs.pieces.is_digit.Statement.{statement}
 use Rattle.drawing.proofs.pieces.is_digit.Tie as tie

@@ -1,3 +1,4 @@
+-- One code: a stuck cursor stays, a gap is skipped, a byte that is asked for is taken, and any other is where reading is stuck.
 use borrow.Author.Needs.{needs}
 use Rattle.drawing.proofs.PlanLaws.{item-stays, item-gap, item-taken, item-refused}
 use Rattle.drawing.proofs.pieces.item.Statement.{statement}
@@ -8,13 +9,9 @@ item-spec =
     tie.close
     (tie.spec
     (λ c. search (item-stays, needs))
-    (λ c κs. search needs)
-    (λ c κs. search needs)
+    (λ c κs. search needs) (λ c κs. search needs)
     (λ c. search item-gap)
-    (λ c κs. search needs)
-    (λ c κs. search needs)
-    (λ c. search needs)
-    (λ c κs. search needs)
+    (λ c κs. search needs) (λ c κs. search needs) (λ c. search needs) (λ c κs. search needs)
     (λ c. search item-taken)
     (λ c κs. search needs)
     (λ c. search item-refused))

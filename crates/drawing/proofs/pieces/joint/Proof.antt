@@ -1,3 +1,4 @@
+-- By the number's place: nothing before the first, a comma and a blank where a type begins, else a blank.
 use borrow.Author.Needs.{needs}
 use Rattle.drawing.proofs.LabelLaws.{joint-none, joint-type, joint-other}
 use Rattle.drawing.proofs.pieces.joint.Statement.{statement}
@@ -8,9 +9,7 @@ joint-spec =
     tie.close
     (tie.spec
     (λ c. search (joint-none, needs))
-    (λ c. search needs)
-    (λ c κs. search needs)
+    (λ c. search needs) (λ c κs. search needs)
     (λ c. search joint-type)
-    (λ c. search needs)
-    (λ c κs. search needs)
+    (λ c. search needs) (λ c κs. search needs)
     (λ c. search joint-other))

@@ -1,3 +1,4 @@
+-- By the two tests, as `limit` has them.
 use native.Mathlib.Omega.{arith}
 use Rattle.drawing.proofs.DigitLaws.{limit-plain, limit-below, limit-above}
 use Rattle.drawing.proofs.pieces.largest.Statement.{statement}

@@ -1,3 +1,4 @@
+-- A stuck cursor stays. A minus counts as one only where a number may have it; after it, or without it, the digits are read.
 use borrow.Author.Needs.{needs}
 use Rattle.drawing.proofs.DigitLaws.{sign-there, sign-none, number-stays, number-minus, number-plain}
 use Rattle.drawing.proofs.pieces.number.Statement.{statement}
@@ -9,8 +10,7 @@ number-spec =
     (tie.spec
     (λ c κs. search needs)
     (λ c. search number-stays)
-    (λ c κs. search needs)
-    (λ c. search needs)
+    (λ c κs. search needs) (λ c. search needs)
     (λ c κs. sign-there _ _ (c .before .peek .ensures .0) (c .if2 .taken))
     (λ c. search number-minus)
     (λ c κs. (search needs, search sign-none))

@@ -1,3 +1,4 @@
+-- The loop keeps that j numbers are read and their bytes put, and that reading on comes to the same.
 use Prim.Native.Nat.{_-_}
 use native.Mathlib.Omega.{arith}
 use borrow.Author.Needs.{needs}
@@ -20,8 +21,7 @@ numbers-spec =
     (λ c. search (numbers-begin, needs))
     (λ c. search needs)
     (λ c κs. (search needs, omega arith))
-    (λ c. search needs)
-    (λ c. search needs)
+    (λ c. search needs) (λ c. search needs)
     (λ c. search numbers-go-on)
     (λ c. search numbers-length)
     (λ c. search (numbers-end, needs)))

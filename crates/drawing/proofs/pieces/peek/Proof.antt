@@ -1,3 +1,4 @@
+-- By the test: inside the text its byte, past the end 256.
 use native.Mathlib.Omega.{arith}
 use borrow.Author.Needs.{needs}
 use Rattle.drawing.proofs.FromLaws.{peek-there, peek-over}

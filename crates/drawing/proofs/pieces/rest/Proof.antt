@@ -1,3 +1,4 @@
+-- The loop keeps the number's size so far, within its range, and that reading on from here comes to the same. Each turn takes a byte of the text.
 use Prim.Native.Nat.{_-_}
 use lib.ListN.{length}
 use native.Mathlib.Omega.{arith}
@@ -20,10 +21,7 @@ rest-spec =
     μ-loop
     (λ c κs. search needs)
     (λ c. search (rest-begins, needs))
-    (λ c κs. search needs)
-    (λ c κs. search needs)
-    (λ c. search needs)
-    (λ c κs. search needs)
+    (λ c κs. search needs) (λ c κs. search needs) (λ c. search needs) (λ c κs. search needs)
     (λ c. goes-on-next _ _ _ (c .before .before .before .peek .ensures .0) (c .before .before .grows .ensures) (c .before .if1 .taken) (c .peek2 .ensures .0) (c .before .before .before .before .before .largest .ensures .1) .least)
     (λ c. omega (arith, goes-on-next _ _ _ (c .before .before .before .peek .ensures .0) (c .before .before .grows .ensures) (c .before .if1 .taken) (c .peek2 .ensures .0) (c .before .before .before .before .before .largest .ensures .1) .most))
     (λ c. omega (arith, goes-on-next _ _ _ (c .before .before .before .peek .ensures .0) (c .before .before .grows .ensures) (c .before .if1 .taken) (c .peek2 .ensures .0) (c .before .before .before .before .before .largest .ensures .1) .there, c .before .before .before .before .before .before .before .good .0 .0))

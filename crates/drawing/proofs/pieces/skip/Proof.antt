@@ -1,3 +1,4 @@
+-- The loop keeps that reading a gap from i comes to reading it from j. It ends at a byte that is no blank, or at the text's end.
 use mathlib.Core.Path.{_≡_}
 use Prim.Native.Nat.{_-_}
 use lib.ListN.{length}
@@ -20,10 +21,8 @@ skip-spec =
     Inv-loop
     μ-loop
     (λ c. search (gap-begins, needs))
-    (λ c κs. search needs)
-    (λ c κs. search needs)
+    (λ c κs. search needs) (λ c κs. search needs)
     (λ c. search gap-stops)
-    (λ c. search needs)
-    (λ c. search needs)
+    (λ c. search needs) (λ c. search needs)
     (λ c. search gap-goes-on)
     (λ c. search (gap-ends, needs)))

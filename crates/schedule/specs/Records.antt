@@ -1,0 +1,34 @@
+-- A schedule's steps and their records, 4 bytes each: board, rule, type, source (outline, "Bundle layout", schedule part).
+use mathlib.Core.Path.{_≡_}
+use mathlib.Core.List.{List, [], _∷_}
+use Prim.Native.Nat.{ℕ, _+_, _*_, _/_, _≤_}
+use lib.ListN.{length}
+use Rattle.fault.specs.Bytes.{byteAt}
+use Rattle.paper.specs.Paper.{Step}
+use Rattle.schedule.specs.declared.Step as declared
+
+-- what the code's struct says
+abbrev pub meant : declared.Step → Step
+meant x = record { board = x .board; rule = x .rule; type = x .mtype; source = x .source }
+
+-- the step that record i of the step bytes names
+abbrev pub recordAt : List ℕ → ℕ → Step
+recordAt bytes i = record { board = byteAt bytes (i * 4); rule = byteAt bytes (i * 4 + 1); type = byteAt bytes (i * 4 + 2); source = byteAt bytes (i * 4 + 3) }
+
+-- the steps that bytes hold
+unfoldable pub stepsIn : List ℕ → List Step
+stepsIn [] = []
+stepsIn (p ∷ []) = []
+stepsIn (p ∷ r ∷ []) = []
+stepsIn (p ∷ r ∷ m ∷ []) = []
+stepsIn (p ∷ r ∷ m ∷ q ∷ bytes) = record { board = p; rule = r; type = m; source = q } ∷ stepsIn bytes
+
+-- the records of a schedule
+unfoldable pub bytesOf : List Step → List ℕ
+bytesOf [] = []
+bytesOf (s ∷ ss) = s .board ∷ s .rule ∷ s .type ∷ s .source ∷ bytesOf ss
+
+-- the step bytes are whole records, and no more than a schedule has
+pub record Records (steps : List ℕ) : Type 0 where
+  pub few : length steps ≤ 16384
+  pub whole : length steps ≡ length steps / 4 * 4

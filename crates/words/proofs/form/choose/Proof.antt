@@ -1,7 +1,0 @@
-use mathlib.Core.Path.{refl}
-use Rattle.fault.proofs.FaultLaws.{if-yes, if-no}
-use Rattle.words.proofs.form.choose.Statement.{statement}
-use Rattle.words.proofs.form.choose.Tie as tie
-
-pub choose-spec : {M : Type 1} → statement M
-choose-spec = tie.close (tie.spec (λ c. if-yes _ refl refl (c .if1 .taken)) (λ c. if-no _ refl (c .if1 .left) refl))
