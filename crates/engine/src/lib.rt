@@ -8,7 +8,7 @@ ghost use Rattle.schedule.specs.Records.{stepsIn, Records};
 ghost use Rattle.paper.specs.Run as runs;
 ghost use Rattle.words.specs.Words.{roomOf};
 ghost use Rattle.words.specs.Facts.{inStep, Bounded, Holds};
-ghost use Rattle.rules.specs.Kept.{ByDesign};
+ghost use Rattle.rules.specs.Kept.{keptRoom, ByDesign};
 ghost use Rattle.engine.specs.Design.{sizesOf};
 ghost use Rattle.engine.specs.Entry.{scheduleOf, startIn, ranAnswer, runAnswer, runWords};
 ghost use Rattle.engine.specs.Open.{Opens, Parts};
@@ -40,7 +40,7 @@ fn run_with<'a>(
     leasts: &mut [u16],
     lent: &mut [u64],
 ) -> Answer
-    requires { ⌜ (length (now ends) ≡ 256) × (length (now leasts) ≡ 256) ⌝ }
+    requires { ⌜ (length (now ends) ≡ keptRoom) × (length (now leasts) ≡ keptRoom) ⌝ }
     ensures { λ r. ⌜ r ≡ runAnswer (now (bundle .entry)) (now (standing .entry)) (length (now (lent .entry))) ⌝ }
     ensures { λ r. ⌜ now (lent .exit) ≡ runWords (now (bundle .entry)) (now (standing .entry)) (now (lent .entry)) ⌝ }
 {
@@ -59,7 +59,7 @@ fn run_with<'a>(
 // ---- the beginning of every call
 // Reads a bundle beside a standing table, and makes its rules ready.
 pub fn open<'a>(bundle: &'a [u8], standing: &'a [u8], ends: &mut [u8], leasts: &mut [u16]) -> Opened
-    requires { ⌜ (length (now ends) ≡ 256) × (length (now leasts) ≡ 256) ⌝ }
+    requires { ⌜ (length (now ends) ≡ keptRoom) × (length (now leasts) ≡ keptRoom) ⌝ }
     ensures { λ o. ⌜ Opens (now (bundle .entry)) (now (standing .entry)) o (now (ends .exit)) (now (leasts .exit)) ⌝ }
 {
     let v = bundle::read_fault(bundle, standing);
@@ -111,7 +111,7 @@ fn sizes_of(table: &[u8], bundle: &[u8]) -> Sizes
 // ---- the run
 // The schedule of a bundle, from its starts, in words of the right number: for every design that the kept rules stand for.
 pub fn run_in(bundle: &[u8], s: Sizes, ends: &[u8], leasts: &[u16], w: &mut [u64]) -> Answer
-    requires { ⌜ (Parts s (now bundle)) × (Bounded s) × (length (now ends) ≡ 256) × (length (now leasts) ≡ 256) × (length (now w) ≡ roomOf s) ⌝ }
+    requires { ⌜ (Parts s (now bundle)) × (Bounded s) × (length (now ends) ≡ keptRoom) × (length (now leasts) ≡ keptRoom) × (length (now w) ≡ roomOf s) ⌝ }
     ensures { λ r. ⌜ ByDesign s (now (ends .entry)) (now (leasts .entry)) (λ d. r ≡ ranAnswer (runs.run (s .level) d (startIn s (now (bundle .entry))) (scheduleOf (now (bundle .entry))))) ⌝ }
     ensures { λ r. ⌜ ByDesign s (now (ends .entry)) (now (leasts .entry)) (λ d. now (w .exit) ≡ runs.run (s .level) d (startIn s (now (bundle .entry))) (scheduleOf (now (bundle .entry))) .left) ⌝ }
     ensures { λ r. ⌜ Holds s inStep (now (w .exit)) ⌝ }
@@ -146,7 +146,7 @@ fn start_word(starts: &[u8], i: usize) -> u64
 
 // The steps one after the other, up to the first that is refused.
 fn run_steps(s: Sizes, ends: &[u8], leasts: &[u16], steps: &[u8], w: &mut [u64]) -> Answer
-    requires { ⌜ (Bounded s) × (length (now ends) ≡ 256) × (length (now leasts) ≡ 256) × (Holds s 256 (now w)) × (Records (now steps)) ⌝ }
+    requires { ⌜ (Bounded s) × (length (now ends) ≡ keptRoom) × (length (now leasts) ≡ keptRoom) × (Holds s 256 (now w)) × (Records (now steps)) ⌝ }
     ensures { λ r. ⌜ ByDesign s (now (ends .entry)) (now (leasts .entry)) (λ d. r ≡ ranAnswer (runs.run (s .level) d (now (w .entry)) (stepsIn (now (steps .entry))))) ⌝ }
     ensures { λ r. ⌜ ByDesign s (now (ends .entry)) (now (leasts .entry)) (λ d. now (w .exit) ≡ runs.run (s .level) d (now (w .entry)) (stepsIn (now (steps .entry))) .left) ⌝ }
     ensures { λ r. ⌜ Holds s inStep (now (w .exit)) ⌝ }

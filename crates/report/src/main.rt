@@ -4,6 +4,7 @@ ghost use mathlib.Core.Path.{_≡_};
 ghost use Prim.Native.Nat.{_≤_, _<_};
 ghost use lib.ListN.{length};
 ghost use Rattle.words.specs.Words.{roomOf};
+ghost use Rattle.rules.specs.Kept.{keptRoom};
 ghost use Rattle.words.specs.Facts.{mostWords, Bounded, At};
 use words::Sizes;
 
@@ -36,7 +37,7 @@ fn report_run<'a>(
     leasts: &mut [u16],
     words: &mut [u64],
 )
-    requires { ⌜ (length (now ends) ≡ 256) × (length (now leasts) ≡ 256) × (mostWords ≤ length (now words)) ⌝ }
+    requires { ⌜ (length (now ends) ≡ keptRoom) × (length (now leasts) ≡ keptRoom) × (mostWords ≤ length (now words)) ⌝ }
 {
     let a = engine::run(bundle, standing, words);
     print_result(a.refusal, a.place, a.count);

@@ -8,7 +8,7 @@ use Rattle.table.specs.Facts.{WellFormed}
 use Rattle.words.specs.declared.Sizes.{Sizes}
 use Rattle.words.specs.Facts.{Bounded}
 use Rattle.rules.specs.Design.{leastAt, sendsOf}
-use Rattle.rules.specs.Kept.{keptFrom, keptTo, keptSends, keptLeast}
+use Rattle.rules.specs.Kept.{keptRoom, keptFrom, keptTo, keptSends, keptLeast}
 
 -- the numbers are those of a well-formed table
 pub record Suits (s : Sizes) (table : List ℕ) : Type 0 where
@@ -24,7 +24,7 @@ pub record EndsAt (T : ℕ) (table ends : List ℕ) (r : ℕ) : Type 0 where
   pub sends : keptSends ends r ≡ sendsOf T table r
 
 pub record EndsTo (T : ℕ) (table ends : List ℕ) (k : ℕ) : Type 0 where
-  pub long : length ends ≡ 256
+  pub long : length ends ≡ keptRoom
   pub at : (r : ℕ) → r < k → EndsAt T table ends r
 
 -- ---- the least counts of the rules below k, and of rule k for the types below j
@@ -32,6 +32,6 @@ abbrev pub LeastAt : Sizes → ℕ → List ℕ → List ℕ → ℕ → ℕ →
 LeastAt s t table leasts r m = keptLeast leasts r m ≡ leastAt table r m (s .correct + s .faulty) t
 
 pub record LeastsTo (s : Sizes) (t : ℕ) (table leasts : List ℕ) (k j : ℕ) : Type 0 where
-  pub long : length leasts ≡ 256
+  pub long : length leasts ≡ keptRoom
   pub at : (r m : ℕ) → r < k → m < s .types → LeastAt s t table leasts r m
   pub last : (m : ℕ) → m < j → LeastAt s t table leasts k m

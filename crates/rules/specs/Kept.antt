@@ -10,6 +10,10 @@ use Rattle.fault.specs.Tests.{_atLeast_}
 use Rattle.paper.specs.Paper.{Design, newly}
 use Rattle.words.specs.declared.Sizes.{Sizes}
 
+-- the bytes, and the numbers, that keep the rules of any table: 64 rules, four each
+abbrev pub keptRoom : ℕ
+keptRoom = 256
+
 -- ---- four bytes a rule: its ends, the type that it sends, and one that is free
 abbrev pub keptFrom : List ℕ → ℕ → ℕ
 keptFrom ends r = getD ends (r * 4) 0
@@ -33,7 +37,7 @@ pub record Numbers (d : Design) (s : Sizes) : Type 0 where
 
 -- these ends: a rule sends one type at most, the lowest that its end has sent and its start has not; T where there is none
 pub record KeptEnds (d : Design) (s : Sizes) (ends : List ℕ) : Type 0 where
-  pub long : length ends ≡ 256
+  pub long : length ends ≡ keptRoom
   pub numbers : Numbers d s
   pub from : (r : ℕ) → r < s .rules → keptFrom ends r ≡ d .from r
   pub to : (r : ℕ) → r < s .rules → keptTo ends r ≡ d .to r
@@ -42,7 +46,7 @@ pub record KeptEnds (d : Design) (s : Sizes) (ends : List ℕ) : Type 0 where
 
 -- and these least counts
 pub record KeptLeasts (d : Design) (s : Sizes) (leasts : List ℕ) : Type 0 where
-  pub long : length leasts ≡ 256
+  pub long : length leasts ≡ keptRoom
   pub met : (r m c : ℕ) → r < s .rules → m < s .types → d .met r m c ≡ (c atLeast keptLeast leasts r m)
 
 -- the kept rules stand for the design d

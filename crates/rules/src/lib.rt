@@ -8,7 +8,7 @@ ghost use Rattle.threshold.specs.Threshold.{thresholdIn, leastOf};
 ghost use Rattle.table.specs.Table.{statesOf, fromOf, toOf, endBytes, typeBytes, coefficientsOf};
 ghost use Rattle.words.specs.Facts.{Bounded};
 ghost use Rattle.rules.specs.Design.{sendsOf, designOf};
-ghost use Rattle.rules.specs.Kept.{keptFrom, keptTo, keptSends, keptLeast, Kept};
+ghost use Rattle.rules.specs.Kept.{keptRoom, keptFrom, keptTo, keptSends, keptLeast, Kept};
 ghost use Rattle.rules.specs.Facts.{Suits, EndsTo, LeastsTo};
 use words::Sizes;
 
@@ -18,7 +18,7 @@ pub const ROOM: usize = 256;
 // ---- what is kept
 // The state that rule r leaves.
 pub fn from(ends: &[u8], r: usize) -> usize
-    requires { ⌜ (length (now ends) ≡ 256) × (r < 64) ⌝ }
+    requires { ⌜ (length (now ends) ≡ keptRoom) × (r < 64) ⌝ }
     ensures { λ x. ⌜ x ≡ keptFrom (now (ends .entry)) r ⌝ }
 {
     fault::byte_at(ends, r * 4)
@@ -26,7 +26,7 @@ pub fn from(ends: &[u8], r: usize) -> usize
 
 // The state that it enters.
 pub fn to(ends: &[u8], r: usize) -> usize
-    requires { ⌜ (length (now ends) ≡ 256) × (r < 64) ⌝ }
+    requires { ⌜ (length (now ends) ≡ keptRoom) × (r < 64) ⌝ }
     ensures { λ x. ⌜ (x ≡ keptTo (now (ends .entry)) r) × (x < 256) ⌝ }
 {
     fault::byte_at(ends, r * 4 + 1)
@@ -34,7 +34,7 @@ pub fn to(ends: &[u8], r: usize) -> usize
 
 // The type that it sends; as many as there are types where it sends none.
 pub fn sends(ends: &[u8], r: usize) -> usize
-    requires { ⌜ (length (now ends) ≡ 256) × (r < 64) ⌝ }
+    requires { ⌜ (length (now ends) ≡ keptRoom) × (r < 64) ⌝ }
     ensures { λ x. ⌜ x ≡ keptSends (now (ends .entry)) r ⌝ }
 {
     fault::byte_at(ends, r * 4 + 2)
@@ -42,7 +42,7 @@ pub fn sends(ends: &[u8], r: usize) -> usize
 
 // The least count of type m that meets its threshold.
 pub fn least(leasts: &[u16], r: usize, m: usize) -> u64
-    requires { ⌜ (length (now leasts) ≡ 256) × (r < 64) × (m < 4) ⌝ }
+    requires { ⌜ (length (now leasts) ≡ keptRoom) × (r < 64) × (m < 4) ⌝ }
     ensures { λ x. ⌜ (x ≡ keptLeast (now (leasts .entry)) r m) × (x < 65536) ⌝ }
 {
     let at = r * 4 + m;
@@ -59,7 +59,7 @@ fn as_count(x: u16) -> u64
 // ---- reading them
 // Keeps all rules of the table.
 pub fn keep(table: &[u8], t: usize, s: Sizes, ends: &mut [u8], leasts: &mut [u16])
-    requires { ⌜ (Suits s (now table)) × (t ≤ mostTolerated) × (length (now ends) ≡ 256) × (length (now leasts) ≡ 256) ⌝ }
+    requires { ⌜ (Suits s (now table)) × (t ≤ mostTolerated) × (length (now ends) ≡ keptRoom) × (length (now leasts) ≡ keptRoom) ⌝ }
     ensures { λ x. ⌜ Kept (designOf s t (now (table .entry))) s (now (ends .exit)) (now (leasts .exit)) ⌝ }
 {
     let states = table::states(table);
@@ -69,7 +69,7 @@ pub fn keep(table: &[u8], t: usize, s: Sizes, ends: &mut [u8], leasts: &mut [u16
 
 // Their ends and the types that they send.
 fn keep_ends(table: &[u8], states: usize, s: Sizes, ends: &mut [u8])
-    requires { ⌜ (Suits s (now table)) × (states ≡ statesOf (now table)) × (length (now ends) ≡ 256) ⌝ }
+    requires { ⌜ (Suits s (now table)) × (states ≡ statesOf (now table)) × (length (now ends) ≡ keptRoom) ⌝ }
     ensures { λ x. ⌜ EndsTo (s .types) (now (table .entry)) (now (ends .exit)) (s .rules) ⌝ }
 {
     let rules = s.rules;
@@ -82,7 +82,7 @@ fn keep_ends(table: &[u8], states: usize, s: Sizes, ends: &mut [u8])
 
 // Those of rule r, read before the first is written.
 fn ends_of(table: &[u8], states: usize, s: Sizes, ends: &mut [u8], r: usize)
-    requires { ⌜ (Suits s (now table)) × (states ≡ statesOf (now table)) × (r < s .rules) × (length (now ends) ≡ 256) ⌝ }
+    requires { ⌜ (Suits s (now table)) × (states ≡ statesOf (now table)) × (r < s .rules) × (length (now ends) ≡ keptRoom) ⌝ }
     ensures { λ x. ⌜ now (ends .exit) ≡ set (set (set (now (ends .entry)) (r * 4) (fromOf (now (table .entry)) r)) (r * 4 + 1) (toOf (now (table .entry)) r)) (r * 4 + 2) (sendsOf (s .types) (now (table .entry)) r) ⌝ }
 {
     let rule = table::rule(table, states, s.types, r);
@@ -107,7 +107,7 @@ fn sent_by(table: &[u8], s: Sizes, r: usize, from: usize, to: usize) -> usize
 
 // For each rule and type, the least count that meets the threshold.
 fn keep_leasts(table: &[u8], states: usize, t: usize, s: Sizes, leasts: &mut [u16])
-    requires { ⌜ (Suits s (now table)) × (states ≡ statesOf (now table)) × (t ≤ mostTolerated) × (length (now leasts) ≡ 256) ⌝ }
+    requires { ⌜ (Suits s (now table)) × (states ≡ statesOf (now table)) × (t ≤ mostTolerated) × (length (now leasts) ≡ keptRoom) ⌝ }
     ensures { λ x. ⌜ LeastsTo s t (now (table .entry)) (now (leasts .exit)) (s .rules) 0 ⌝ }
 {
     let rules = s.rules;

@@ -12,14 +12,14 @@ ghost use Rattle.paper.specs.Step.{notInTransit, stepFault, stepped};
 ghost use Rattle.paper.specs.Step as steps;
 ghost use Rattle.schedule.specs.Records.{meant};
 ghost use Rattle.words.specs.Facts.{atRest, inStep, Bounded, Holds, Grown};
-ghost use Rattle.rules.specs.Kept.{keptFrom, ByEnds, ByDesign};
+ghost use Rattle.rules.specs.Kept.{keptRoom, keptFrom, ByEnds, ByDesign};
 ghost use Rattle.step.specs.Step.{leftBy, sized, metWith, movedBy, keptStepped, keptFault, keptLeft, Formed, Leaves};
 use schedule::Step;
 use words::Sizes;
 
 // The step if it is accepted, and 0; or its refusal, and no change: for every design that the kept rules stand for.
 pub fn step(s: Sizes, ends: &[u8], leasts: &[u16], w: &mut [u64], x: Step) -> usize
-    requires { ⌜ (Bounded s) × (length (now ends) ≡ 256) × (length (now leasts) ≡ 256) × (Holds s atRest (now w)) ⌝ }
+    requires { ⌜ (Bounded s) × (length (now ends) ≡ keptRoom) × (length (now leasts) ≡ keptRoom) × (Holds s atRest (now w)) ⌝ }
     ensures { λ r. ⌜ ByDesign s (now (ends .entry)) (now (leasts .entry)) (λ d. r ≡ stepFault (s .level) d (now (w .entry)) (meant x)) ⌝ }
     ensures { λ r. ⌜ ByDesign s (now (ends .entry)) (now (leasts .entry)) (λ d. now (w .exit) ≡ leftBy (s .level) d (now (w .entry)) (meant x)) ⌝ }
     ensures { λ r. ⌜ Grown s (now (w .entry)) (now (w .exit)) ⌝ }
@@ -30,7 +30,7 @@ pub fn step(s: Sizes, ends: &[u8], leasts: &[u16], w: &mut [u64], x: Step) -> us
 // The same by the kept rules themselves. A step without a message goes its own way after the checks that both have, so that
 // neither asks again whether there is one.
 fn kept_step(s: Sizes, ends: &[u8], leasts: &[u16], w: &mut [u64], x: Step) -> usize
-    requires { ⌜ (Bounded s) × (length (now ends) ≡ 256) × (length (now leasts) ≡ 256) × (Holds s atRest (now w)) ⌝ }
+    requires { ⌜ (Bounded s) × (length (now ends) ≡ keptRoom) × (length (now leasts) ≡ keptRoom) × (Holds s atRest (now w)) ⌝ }
     ensures { λ r. ⌜ r ≡ keptFault s (now (ends .entry)) (now (leasts .entry)) (now (w .entry)) (meant x) ⌝ }
     ensures { λ r. ⌜ now (w .exit) ≡ keptLeft s (now (ends .entry)) (now (leasts .entry)) (now (w .entry)) (meant x) ⌝ }
 {
@@ -51,7 +51,7 @@ fn kept_step(s: Sizes, ends: &[u8], leasts: &[u16], w: &mut [u64], x: Step) -> u
 
 // The rest of a step without a message.
 fn without_message(s: Sizes, ends: &[u8], leasts: &[u16], w: &mut [u64], x: Step) -> usize
-    requires { ⌜ (Bounded s) × (length (now ends) ≡ 256) × (length (now leasts) ≡ 256) × (Holds s atRest (now w)) × (Leaves s (now ends) (now w) (meant x)) × (paper.silent (meant x) ≡ true) ⌝ }
+    requires { ⌜ (Bounded s) × (length (now ends) ≡ keptRoom) × (length (now leasts) ≡ keptRoom) × (Holds s atRest (now w)) × (Leaves s (now ends) (now w) (meant x)) × (paper.silent (meant x) ≡ true) ⌝ }
     ensures { λ r. ⌜ r ≡ keptFault s (now (ends .entry)) (now (leasts .entry)) (now (w .entry)) (meant x) ⌝ }
     ensures { λ r. ⌜ now (w .exit) ≡ keptLeft s (now (ends .entry)) (now (leasts .entry)) (now (w .entry)) (meant x) ⌝ }
 {
@@ -64,7 +64,7 @@ fn without_message(s: Sizes, ends: &[u8], leasts: &[u16], w: &mut [u64], x: Step
 
 // The rest of a step with one.
 fn with_message(s: Sizes, ends: &[u8], leasts: &[u16], w: &mut [u64], x: Step) -> usize
-    requires { ⌜ (Bounded s) × (length (now ends) ≡ 256) × (length (now leasts) ≡ 256) × (Holds s atRest (now w)) × (Leaves s (now ends) (now w) (meant x)) ⌝ }
+    requires { ⌜ (Bounded s) × (length (now ends) ≡ keptRoom) × (length (now leasts) ≡ keptRoom) × (Holds s atRest (now w)) × (Leaves s (now ends) (now w) (meant x)) ⌝ }
     ensures { λ r. ⌜ r ≡ keptFault s (now (ends .entry)) (now (leasts .entry)) (now (w .entry)) (meant x) ⌝ }
     ensures { λ r. ⌜ now (w .exit) ≡ keptLeft s (now (ends .entry)) (now (leasts .entry)) (now (w .entry)) (meant x) ⌝ }
 {
@@ -91,7 +91,7 @@ fn at_least(x: usize, limit: usize) -> bool
 
 // 22
 pub fn other_state(ends: &[u8], w: &[u64], p: usize, r: usize) -> bool
-    requires { ⌜ (length (now ends) ≡ 256) × (r < 64) × (p < length (now w)) ⌝ }
+    requires { ⌜ (length (now ends) ≡ keptRoom) × (r < 64) × (p < length (now w)) ⌝ }
     ensures { λ b. ⌜ b ≡ (state (now (w .entry)) p differs keptFrom (now (ends .entry)) r) ⌝ }
 {
     w[p] != rules::from(ends, r) as u64
@@ -119,7 +119,7 @@ fn not_in_transit(s: Sizes, w: &[u64], x: Step) -> bool
 
 // 25, by the counts after the receipt
 pub fn not_met(s: Sizes, leasts: &[u16], w: &[u64], p: usize, r: usize, m: usize) -> bool
-    requires { ⌜ (Bounded s) × (length (now leasts) ≡ 256) × (p < s .correct) × (r < s .rules) × (Holds s inStep (now w)) ⌝ }
+    requires { ⌜ (Bounded s) × (length (now leasts) ≡ keptRoom) × (p < s .correct) × (r < s .rules) × (Holds s inStep (now w)) ⌝ }
     ensures { λ b. ⌜ b ≡ not (metWith s (now (leasts .entry)) (now (w .entry)) p r m) ⌝ }
 {
     let types = s.types;
@@ -144,7 +144,7 @@ fn gain(m: usize, i: usize) -> u64
 // ---- the change
 // The step, which is known to be accepted: for every design that the kept ends stand for.
 pub fn apply_step(s: Sizes, ends: &[u8], w: &mut [u64], x: Step)
-    requires { ⌜ (Bounded s) × (length (now ends) ≡ 256) × (Formed s (meant x)) × (Holds s atRest (now w)) ⌝ }
+    requires { ⌜ (Bounded s) × (length (now ends) ≡ keptRoom) × (Formed s (meant x)) × (Holds s atRest (now w)) ⌝ }
     ensures { λ r. ⌜ ByEnds s (now (ends .entry)) (λ d. now (w .exit) ≡ stepped (s .level) d (now (w .entry)) (meant x)) ⌝ }
     ensures { λ r. ⌜ Grown s (now (w .entry)) (now (w .exit)) ⌝ }
 {
@@ -153,7 +153,7 @@ pub fn apply_step(s: Sizes, ends: &[u8], w: &mut [u64], x: Step)
 
 // A receipt, and a move with perhaps a send.
 fn change(s: Sizes, ends: &[u8], w: &mut [u64], x: Step)
-    requires { ⌜ (Bounded s) × (length (now ends) ≡ 256) × (Formed s (meant x)) × (Holds s atRest (now w)) ⌝ }
+    requires { ⌜ (Bounded s) × (length (now ends) ≡ keptRoom) × (Formed s (meant x)) × (Holds s atRest (now w)) ⌝ }
     ensures { λ r. ⌜ now (w .exit) ≡ keptStepped s (now (ends .entry)) (now (w .entry)) (meant x) ⌝ }
 {
     receive(s, w, x);
@@ -173,7 +173,7 @@ fn receive(s: Sizes, w: &mut [u64], x: Step)
 
 // Board p enters the state that rule r leads to, and sends the rule's type, if any.
 fn move_on(s: Sizes, ends: &[u8], w: &mut [u64], p: usize, r: usize)
-    requires { ⌜ (Bounded s) × (length (now ends) ≡ 256) × (p < s .correct) × (r < s .rules) × (Holds s inStep (now w)) ⌝ }
+    requires { ⌜ (Bounded s) × (length (now ends) ≡ keptRoom) × (p < s .correct) × (r < s .rules) × (Holds s inStep (now w)) ⌝ }
     ensures { λ x. ⌜ now (w .exit) ≡ movedBy s (now (ends .entry)) p r (now (w .entry)) ⌝ }
 {
     words::enter(w, p, rules::to(ends, r) as u64);

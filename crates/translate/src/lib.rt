@@ -14,7 +14,7 @@ ghost use Rattle.agree.specs.Translation.{tagOf, tagBy, coarser};
 ghost use Rattle.schedule.specs.Records.{meant, recordAt, stepsIn, bytesOf, Records};
 ghost use Rattle.words.specs.Words.{roomOf};
 ghost use Rattle.words.specs.Facts.{atRest, inStep, mostWords, Bounded, Holds, At, Grown};
-ghost use Rattle.rules.specs.Kept.{ByEnds, ByDesign};
+ghost use Rattle.rules.specs.Kept.{keptRoom, ByEnds, ByDesign};
 ghost use Rattle.step.specs.Step.{Formed};
 ghost use Rattle.engine.specs.Entry.{startIn, ranAnswer};
 ghost use Rattle.engine.specs.Open.{Parts};
@@ -71,7 +71,7 @@ fn translate_with<'a>(
     words: &mut [u64],
     out: &mut [u8],
 ) -> Answer
-    requires { ⌜ (length (now ends) ≡ 256) × (length (now leasts) ≡ 256) × (length (now words) ≡ mostWords) ⌝ }
+    requires { ⌜ (length (now ends) ≡ keptRoom) × (length (now leasts) ≡ keptRoom) × (length (now words) ≡ mostWords) ⌝ }
     ensures { λ r. ⌜ r ≡ translateToAnswer (now (bundle .entry)) (now (standing .entry)) form (length (now (out .entry))) ⌝ }
     ensures { λ r. ⌜ now (out .exit) ≡ translateToBytes (now (bundle .entry)) (now (standing .entry)) form (now (out .entry)) ⌝ }
 {
@@ -125,7 +125,7 @@ fn translate_in(
 
 // The bundle's run in its own form.
 fn run_own(bundle: &[u8], s: Sizes, ends: &[u8], leasts: &[u16], words: &mut [u64]) -> Answer
-    requires { ⌜ (Parts s (now bundle)) × (Bounded s) × (length (now ends) ≡ 256) × (length (now leasts) ≡ 256) × (length (now words) ≡ mostWords) ⌝ }
+    requires { ⌜ (Parts s (now bundle)) × (Bounded s) × (length (now ends) ≡ keptRoom) × (length (now leasts) ≡ keptRoom) × (length (now words) ≡ mostWords) ⌝ }
     ensures { λ r. ⌜ ByDesign s (now (ends .entry)) (now (leasts .entry)) (λ d. r ≡ ranAnswer (ranBy s (now (bundle .entry)) d)) ⌝ }
     ensures { λ r. ⌜ length (now (words .exit)) ≡ mostWords ⌝ }
 {
@@ -291,7 +291,7 @@ fn write_along(s: Sizes, ends: &[u8], w: &mut [u64], steps: &mut [u8])
 
 // The tag of record i becomes its source, and the step is taken.
 fn source_at(s: Sizes, ends: &[u8], w: &mut [u64], steps: &mut [u8], i: usize)
-    requires { ⌜ (Bounded s) × (length (now ends) ≡ 256) × (Holds s atRest (now w)) × (i < 4096) × (i * 4 + 3 < length (now steps)) × (Formed s (lowIn s (now w) (recordAt (now steps) i))) ⌝ }
+    requires { ⌜ (Bounded s) × (length (now ends) ≡ keptRoom) × (Holds s atRest (now w)) × (i < 4096) × (i * 4 + 3 < length (now steps)) × (Formed s (lowIn s (now w) (recordAt (now steps) i))) ⌝ }
     ensures { λ r. ⌜ ByEnds s (now (ends .entry)) (λ d. now (w .exit) ≡ stepped (s .level) d (now (w .entry)) (lowIn s (now (w .entry)) (recordAt (now (steps .entry)) i))) ⌝ }
     ensures { λ r. ⌜ Grown s (now (w .entry)) (now (w .exit)) ⌝ }
     ensures { λ r. ⌜ now (steps .exit) ≡ set (now (steps .entry)) (i * 4 + 3) (lowIn s (now (w .entry)) (recordAt (now (steps .entry)) i) .source) ⌝ }
