@@ -12,11 +12,17 @@ fault-with-spec =
     tie.close
     (tie.spec
     (λ c κs. search needs) (λ c κs. search needs)
+    -- returns
     (λ c. search (if-yes, needs))
+    -- out-of-bundle-requires
     (λ c κs. search trailer-by)
     (λ c κs. search needs)
+    -- returns-2
     (λ c. search (if-yes, if-no, needs))
     (λ c κs. search needs)
+    -- returns-3
     (λ c. search (if-no, then-stop))
+    -- schedule-fault-requires
     (λ c κs. (search table-sized, search trailed))
+    -- returns-4
     (λ c. search (if-no, then-pass)))

@@ -10,7 +10,10 @@ unfolding frontLength
 front-spec =
     tie.close
     (tie.spec
+    -- returns
     (λ c. omega arith)
     (λ c κs. search needs) (λ c. search needs) (λ c. search needs)
+    -- returns-2
     (λ c. omega arith)
+    -- returns-3
     (λ c. omega arith))

@@ -9,5 +9,7 @@ level-spec =
     tie.close
     (tie.spec
     (λ c κs. search needs)
+    -- returns
     (λ c. (search level-low, search needs))
+    -- returns-2
     (λ c. (search level-high, search needs)))

@@ -11,4 +11,5 @@ not-admitted-spec =
     (tie.spec
     (λ c κs. search needs) (λ c κs. search needs) (λ c κs. search needs) (λ c κs. search needs) (λ c κs. search needs)
     (λ c κs. search needs)
+    -- returns
     (λ c. cc))

@@ -9,6 +9,8 @@ not-initial-spec =
     tie.close
     (tie.spec
     (λ c κs. search needs)
+    -- returns
     (λ c. search start-outside)
     (λ c κs. search needs)
+    -- returns-2
     (λ c. search start-inside))

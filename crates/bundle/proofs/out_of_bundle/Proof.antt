@@ -10,4 +10,5 @@ out-of-bundle-spec =
     tie.close
     (tie.spec
     (λ c κs. search needs) (λ c. search needs)
+    -- returns
     (λ c. cc))

@@ -12,9 +12,13 @@ schedule-fault-spec =
     tie.close
     (tie.spec
     (λ c κs. search needs) (λ c κs. search needs) (λ c κs. search needs)
+    -- returns
     (λ c. search (if-yes, admitted-with, needs))
     (λ c κs. search needs) (λ c κs. search needs)
+    -- returns-2
     (λ c. search (if-yes, if-no, admitted-with, needs))
+    -- starts-requires
     (λ c κs. (search needs, search parted))
     (λ c κs. search needs)
+    -- returns-3
     (λ c. search (if-no, admitted-with, starts-last)))

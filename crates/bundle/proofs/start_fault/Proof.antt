@@ -9,5 +9,7 @@ start-fault-spec =
     tie.close
     (tie.spec
     (λ c κs. search needs) (λ c κs. search needs)
+    -- returns
     (λ c. search start-wrong)
+    -- returns-2
     (λ c. search start-right))

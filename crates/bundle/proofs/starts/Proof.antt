@@ -10,4 +10,5 @@ starts-spec =
     (tie.spec
     (λ c κs. search needs) (λ c κs. search needs) (λ c. search needs) (λ c. search needs) (λ c. search needs)
     (λ c. search needs)
+    -- returns
     (λ c. search starts-are))

@@ -20,9 +20,13 @@ starts-fault-spec =
     (tie.spec
     Inv-loop
     μ-loop
+    -- loop-holds
     (λ c. (search needs, search first-none))
     (λ c κs. search needs)
+    -- returns
     (λ c. search (first-found, needs))
     (λ c. search needs) (λ c. search needs)
+    -- loop-again
     (λ c. (search needs, search first-more))
+    -- returns-2
     (λ c. search (first-never, needs)))

@@ -10,8 +10,12 @@ steps-spec =
     tie.close
     (tie.spec
     (λ c κs. search needs) (λ c κs. search needs)
+    -- add-end
     (λ c. omega arith)
     (λ c. search needs)
+    -- part-result-start
     (λ c. omega arith)
+    -- part-result-end
     (λ c. omega arith)
+    -- returns
     (λ c. search steps-are))

@@ -12,6 +12,9 @@ table-in-use-spec =
     tie.close
     (tie.spec
     (λ c κs. search needs)
+    -- slice-aggregate-result
     (λ c. sym (length-take-le _ _ (omega arith)))
+    -- returns
     (λ c. search use-standing)
+    -- returns-2
     (λ c. search use-front))

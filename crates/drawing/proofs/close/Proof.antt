@@ -18,17 +18,25 @@ pub close-spec : {M : Type 1} → statement M
 close-spec =
     tie.close
     (tie.spec
+    -- mul-times
     (λ c. let x = c .before .before .pre .0 in omega (arith, x .few-types))
+    -- add-times
     (λ c. let x = c .before .before .pre .0 in omega (arith, x .few-types))
+    -- times-requires
     (λ c κs. let x = c .before .before .pre .0 in (omega (arith, x .few-rules), omega (arith, x .few-types)))
+    -- mul-all
     (λ c. let x = c .before .before .before .before .pre .0 in omega (arith, x .few-states))
+    -- add-all
     (λ c. let x = c .before .before .before .before .pre .0 in omega (arith, x .few-states, c .before .times .ensures .1))
     (λ c κs. search needs)
+    -- high-requires
     (λ c κs. omega (arith, room (c .before .before .before .before .before .pre .0), c .before .before .times .ensures .0))
     (λ c κs. search needs)
+    -- high-requires-2
     (λ c κs. omega (arith, room (c .before .before .before .before .before .before .before .pre .0), c .before .before .before .before .times .ensures .0))
     (λ c κs. search needs) (λ c κs. search needs) (λ c κs. search needs) (λ c κs. search needs) (λ c. search needs)
     (λ c κs. search needs) (λ c. search needs)
+    -- returns
     (λ c. let last = c .before .before .before .before .before in let states = last .before .before .before in let first = states .before .before .before .before in
     let times = first .before .before in let start = times .before .before .before in
     c .before .before .put-all .ensures .bytes

@@ -18,18 +18,23 @@ draw-spec =
     tie.close
     (tie.spec
     (λ c κs. search needs) (λ c κs. search needs)
+    -- returns
     (λ c. let a = c .before .before .before .before .before .before .args in
     let E = gave-refused (drawingOf (a .table .now)) (a .out .now) (c .before .before .before .table-fault .ensures) (c .before .if1 .taken) (c .answered .ensures) in (E .answer, E .bytes))
     (λ c. search needs) (λ c. search needs)
+    -- write-requires
     (λ c κs. sized-table (c .before .before .before .before .before .before .args .table .now) (c .before .before .before .table-fault .ensures) (c .before .if1 .left))
     (λ c κs. search needs) (λ c. search needs)
+    -- returns-2
     (λ c. let counted = c .before .before .before .before in let passed = counted .before .before in let start = passed .before .before .before .before .before in
     let d = drawingOf (start .args .table .now) in
     let M = measured _ d (start .args .out .now) (counted .write .ensures .2) in
     let E = gave-short d (start .args .out .now) (passed .before .before .table-fault .ensures) (passed .if1 .left) (omega (arith, ap length M, counted .write .ensures .0, c .before .if2 .taken)) (c .answered2 .ensures) in
     (E .answer, M ∙ E .bytes))
+    -- write-requires-2
     (λ c κs. let passed = c .before .before .before .before .before .before in sized-table (passed .before .before .before .before .before .args .table .now) (passed .before .before .table-fault .ensures) (passed .if1 .left))
     (λ c κs. search needs) (λ c. search needs)
+    -- returns-3
     (λ c. let tested = c .before .before .before .before .before in let counted = tested .before .before .before in let passed = counted .before .before in
     let start = passed .before .before .before .before .before in
     let d = drawingOf (start .args .table .now) in

@@ -13,24 +13,31 @@ undraw-in-spec =
     tie.close
     (tie.spec
     (λ c κs. search needs) (λ c κs. search needs) (λ c. search needs)
+    -- returns
     (λ c. let E = undrew-stuck (c .before .before .before .before .read .ensures .0) (c .before .if1 .taken) (c .answered .ensures) in (E .answer, E .bytes))
     (λ c κs. search needs) (λ c κs. search needs) (λ c. search needs)
+    -- returns-2
     (λ c. let counted = c .before .before in let known = counted .before .before .before .before in
     let E = undrew-outside (known .read .ensures .0) (counted .before .if1 .left) (counted .counts-outside .ensures) (c .before .if2 .taken) (c .answered2 .ensures) in
     (E .answer, E .bytes))
+    -- close-requires
     (λ c κs. let counted = c .before .before in let known = counted .before .before .before .before in
     let e = counted .counts-outside .ensures in
     let h = c .before .if2 .left in
     (counts-by _ _ _ _ e h, few-records (known .read .ensures .0 .draws (counted .before .if1 .left)) e h))
+    -- add-n
     (λ c. let counted = c .before .before .before .before .before .before in let known = counted .before .before .before .before in
     omega (arith, few-records (known .read .ensures .0 .draws (counted .before .if1 .left)) (counted .counts-outside .ensures) (c .before .before .before .before .before .if2 .left)))
+    -- slice-reshare-prefix-give
     (λ c. let tested = c .before .before .before .before .before in let counted = tested .before in let known = counted .before .before .before .before in
     let start = known .before .before .before .before .before in
     table-room (known .read .ensures .0 .draws (counted .before .if1 .left)) (known .read .ensures .1) (start .pre) (counted .counts-outside .ensures) (tested .if2 .left) (c .before .before .before .close .ensures))
+    -- slice-aggregate-give
     (λ c. let tested = c .before .before .before .before .before .before in let counted = tested .before in let known = counted .before .before .before .before in
     let start = known .before .before .before .before .before in
     sym (length-take-le _ _ (table-room (known .read .ensures .0 .draws (counted .before .if1 .left)) (known .read .ensures .1) (start .pre) (counted .counts-outside .ensures) (tested .if2 .left) (c .before .before .before .before .close .ensures))))
     (λ c κs. search needs) (λ c. search needs) (λ c. search needs)
+    -- returns-3
     (λ c. let gave = c .before .before in let closed = gave .before .before .before .before .before .before in let tested = closed .before .before in
     let counted = tested .before in let known = counted .before .before .before .before in let start = known .before .before .before .before .before in
     let given = gave .give .ensures in

@@ -20,13 +20,18 @@ begin-spec =
     (tie.spec
     Inv-loop
     μ-loop
+    -- loop-holds
     (λ c. (omega arith, refl, λ j h. absurd (omega arith)))
     (λ c κs. search needs) (λ c. search needs)
+    -- slice-write-w
     (λ c. omega (arith, c .before .before .loop .inv .1, c .before .loop-test .taken))
     (λ c. search needs) (λ c. search needs)
+    -- loop-again
     (λ c. let turn = c .before .before .loop in let a = c .before .before .before .before .before .args in
     (omega arith, length-set (turn .w) (turn .i) (c .start-word .result) ∙ turn .inv .1, fills (turn .w) (a .starts .now) (turn .i) (c .start-word .result) (omega (arith, turn .inv .1, c .before .loop-test .taken)) (turn .inv .2) (c .start-word .ensures .0)))
+    -- same-length
     (λ c. c .before .loop .inv .1)
+    -- returns
     (λ c. let end = c .before .loop in let st = c .before .before .before .before in let a = st .args in
     let all : (j : ℕ) → j < length (end .w) → getD (end .w) j 0 ≡ getD (a .starts .now) j 0 = λ j h. end .inv .2 j (omega (arith, end .inv .1, c .loop-test .left)) in
     (filled (a .s) (a .starts .now) (st .pre .0) (end .w) (end .inv .1 ∙ st .pre .1) all, filled-holds (a .s) (a .starts .now) (st .pre .0) (end .w) (end .inv .1 ∙ st .pre .1) all (λ i. omega (arith, c .before .before .before .shared-slice-known .given i)))))

@@ -9,6 +9,8 @@ run-spec =
     tie.close
     (tie.spec
     (λ c. search needs) (λ c. search needs)
+    -- run-with-requires
     (λ c κs. (refl, refl))
     (λ c. search needs)
+    -- returns
     (λ c. c .before .before .before .before .run-with .ensures))

@@ -12,13 +12,16 @@ run-in-spec =
     tie.close
     (tie.spec
     (λ c κs. search needs)
+    -- begin-requires
     (λ c κs. let st = c .before .before .before .before .before .before in
     (starts-long (st .args .s) (st .args .bundle .now) (st .pre .0) (c .before .starts .ensures), st .pre .4))
     (λ c κs. search needs)
+    -- run-steps-requires
     (λ c κs. let steps = c .before in let begun = steps .before .before .before in let st = begun .before .before .before .before .before .before .before in
     let a = st .args in
     (st .pre .1, st .pre .2, st .pre .3, begun .begin .ensures .1, whole-steps (a .s) (a .bundle .now) (st .pre .0) (steps .steps .ensures)))
     (λ c. search needs)
+    -- returns
     (λ c. let ran = c .before .before in let steps = ran .before .before in let begun = steps .before .before .before in let starts = begun .before .before in
     let st = starts .before .before .before .before .before in let a = st .args in
     let e = parts-run (a .s) (a .bundle .now) (starts .starts .ensures) (begun .begin .ensures .0) (steps .steps .ensures) in

@@ -11,5 +11,6 @@ start-word-spec =
     tie.close
     (tie.spec
     (λ c κs. search needs) (λ c. search needs)
+    -- returns-2
     (λ c. let a = c .before .before .args in
     (sym (List·getD-eq-default (a .starts .now) 0 (c .if1 .left)), omega arith)))

@@ -10,6 +10,8 @@ put-spec =
     tie.close
     (tie.spec
     (λ c. search needs) (λ c. search needs) (λ c. search needs)
+    -- returns
     (λ c. (omega arith, search stored-fits))
     (λ c. search needs)
+    -- returns-2
     (λ c. (omega arith, search (stored-over, needs))))

@@ -20,8 +20,11 @@ put-all-spec =
     (tie.spec
     Inv-loop
     μ-loop
+    -- loop-holds
     (λ c. (omega arith, omega arith, refl, rest-all refl))
     (λ c. search needs) (λ c κs. search needs) (λ c. search needs) (λ c. search needs)
+    -- loop-again
     (λ c. (omega arith, omega arith, search needs, search word-more))
     (λ c. search needs)
+    -- returns
     (λ c. search word-over))

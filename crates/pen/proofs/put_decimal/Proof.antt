@@ -10,9 +10,12 @@ put-decimal-spec =
     tie.close
     (tie.spec
     (λ c κs. search needs) (λ c κs. search needs) (λ c. search needs)
+    -- returns
     (λ c. (search put-one-digit, omega arith))
     (λ c κs. search needs) (λ c κs. search needs) (λ c κs. search needs) (λ c κs. search needs) (λ c. search needs)
+    -- returns-2
     (λ c. (search put-two-digits, omega arith))
     (λ c κs. search needs) (λ c κs. search needs) (λ c κs. search needs) (λ c κs. search needs) (λ c κs. search needs)
     (λ c κs. search needs) (λ c. search needs)
+    -- returns-3
     (λ c. (search put-three-digits, omega arith)))

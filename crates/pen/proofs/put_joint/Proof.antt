@@ -9,8 +9,11 @@ pub put-joint-spec : {M : Type 1} → statement M
 put-joint-spec =
     tie.close
     (tie.spec
+    -- returns
     (λ c. (search put-joint-none, omega arith))
     (λ c. search needs) (λ c κs. search needs) (λ c. search needs)
+    -- returns-2
     (λ c. (search put-joint-type, omega arith))
     (λ c. search needs) (λ c κs. search needs) (λ c. search needs)
+    -- returns-3
     (λ c. (search joint-blank, omega arith)))

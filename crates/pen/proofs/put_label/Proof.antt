@@ -11,4 +11,5 @@ put-label-spec =
     (tie.spec
     (λ c. search needs) (λ c κs. search needs) (λ c κs. search needs) (λ c. search needs) (λ c κs. search needs)
     (λ c. search needs)
+    -- returns
     (λ c. (search label-put, omega arith)))

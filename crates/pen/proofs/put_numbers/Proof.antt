@@ -27,11 +27,14 @@ put-numbers-spec =
     (tie.spec
     Inv-loop
     μ-loop
+    -- loop-holds
     (λ c. (omega arith, omega arith, refl, rest-all (search numbers-first)))
     (λ c. search needs) (λ c. search needs) (λ c κs. search needs) (λ c κs. search needs) (λ c. search needs)
     (λ c. search needs)
+    -- loop-again
     (λ c. let turn = c .before .before .before .before .before .before in let a = turn .before .before .before .args in let l = turn .loop in
     let e : c .before .before .before .byte-at .result ≡ byteAt (a .table .now) (a .at + l .j) = omega arith in
     (omega arith, omega arith, search needs, numbers-turn (spelling (a .signed)) (a .table .now) (l .j) (a .at) (l .inv .3) (omega arith) e (c .before .before .put-number .ensures .0)))
     (λ c. search needs)
+    -- returns
     (λ c. (search put-numbers-end, omega arith)))

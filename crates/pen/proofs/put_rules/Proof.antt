@@ -27,8 +27,11 @@ put-rules-spec =
     Inv-loop
     μ-loop
     (λ c κs. search needs)
+    -- loop-holds
     (λ c. (omega arith, omega arith, refl, rest-all (search rules-first)))
     (λ c κs. search needs) (λ c. search needs) (λ c. search needs)
+    -- loop-again
     (λ c. (omega arith, omega arith, search needs, search rules-turn))
     (λ c. search needs)
+    -- returns
     (λ c. (search rules-end, omega arith)))

@@ -10,6 +10,8 @@ put-signed-spec =
     tie.close
     (tie.spec
     (λ c κs. search needs) (λ c. search needs)
+    -- returns
     (λ c. (search signed-plain, omega arith))
     (λ c κs. search needs) (λ c. search needs) (λ c κs. search needs) (λ c. search needs)
+    -- returns-2
     (λ c. (search signed-minus, omega arith)))

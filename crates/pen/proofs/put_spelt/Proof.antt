@@ -10,6 +10,8 @@ put-spelt-spec =
     tie.close
     (tie.spec
     (λ c κs. search needs) (λ c. search needs)
+    -- returns
     (λ c. (search spelt-signed, omega arith))
     (λ c κs. search needs) (λ c. search needs)
+    -- returns-2
     (λ c. (search spelt-plain, omega arith)))

@@ -10,4 +10,5 @@ put-state-spec =
     tie.close
     (tie.spec
     (λ c. search needs) (λ c κs. search needs) (λ c. search needs) (λ c κs. search needs) (λ c. search needs)
+    -- returns
     (λ c. (search state-put, omega arith)))

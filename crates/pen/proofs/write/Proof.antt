@@ -11,4 +11,5 @@ write-spec =
     (tie.spec
     (λ c κs. search needs) (λ c κs. search needs) (λ c κs. search needs) (λ c. search needs) (λ c κs. search needs)
     (λ c. search needs)
+    -- returns
     (λ c. put-whole (search drawing-put) (omega arith)))

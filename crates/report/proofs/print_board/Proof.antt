@@ -18,10 +18,12 @@ print-board-spec =
     Inv-loop
     μ-loop
     (λ c. search needs) (λ c κs. search needs) (λ c κs. search needs)
+    -- state-in-requires
     (λ c κs. c .before .before .before .before .pre)
     (λ c κs. search needs)
+    -- loop-holds
     (λ c. omega arith)
+    -- print-cell-requires
     (λ c κs. let said = c .before .before .before in let st = said .before .before .before .before .before in
     (st .pre .0, record { board = st .pre .1; type = c .loop-test .taken }, st .pre .2))
-    (λ c. search needs) (λ c. search needs) (λ c. search needs) (λ c κs. search needs)
-    (λ c. search needs))
+    (λ c. search needs) (λ c. search needs) (λ c. search needs) (λ c κs. search needs) (λ c. search needs))

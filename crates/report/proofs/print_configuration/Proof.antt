@@ -17,9 +17,12 @@ print-configuration-spec =
     (tie.spec
     Inv-loop
     μ-loop
+    -- loop-holds
     (λ c. omega arith)
+    -- print-board-requires
     (λ c κs. let st = c .before .before .before in
     (st .pre .0, c .loop-test .taken, st .pre .1))
     (λ c. search needs) (λ c. search needs) (λ c. search needs)
+    -- print-sent-requires
     (λ c κs. c .before .before .before .pre)
     (λ c. search needs))

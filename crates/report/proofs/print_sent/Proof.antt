@@ -18,7 +18,9 @@ print-sent-spec =
     Inv-loop
     μ-loop
     (λ c. search needs) (λ c κs. search needs)
+    -- loop-holds
     (λ c. omega arith)
+    -- sent-in-requires
     (λ c κs. let st = c .before .before .before .before .before in
     (st .pre .0, c .loop-test .taken, st .pre .1))
     (λ c κs. search needs) (λ c. search needs) (λ c. search needs) (λ c. search needs) (λ c κs. search needs)

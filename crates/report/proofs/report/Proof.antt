@@ -11,5 +11,6 @@ report-spec =
     (tie.spec
     (λ c κs. search needs) (λ c. search needs) (λ c κs. search needs) (λ c. search needs) (λ c. search needs)
     (λ c. search needs) (λ c. search needs)
+    -- report-run-requires
     (λ c κs. (refl, refl, omega arith))
     (λ c. search needs))

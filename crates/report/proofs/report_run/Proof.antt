@@ -12,16 +12,19 @@ report-run-spec =
     (tie.spec
     (λ c κs. search needs) (λ c κs. search needs) (λ c κs. search needs) (λ c. search needs) (λ c. search needs)
     (λ c. search needs) (λ c. search needs)
+    -- room-requires
     (λ c κs. let opened = c .before .before .before .before .before .before .before in
     opened .open .ensures .ready (c .before .if1 .left) .bounded)
+    -- slice-reshare-prefix-print-configuration
     (λ c. let room = c in let near = room .before .before .before .before .before .before in let opened = near .before .before in
     let left = opened .before .before .before .before .before in let near2 = left .before .before .before .before .before .before in let st = near2 .before .before in
     omega (arith, st .pre .2, room .room .ensures .1, left .words .given))
+    -- slice-aggregate-print-configuration
     (λ c. let room = c .before in let near = room .before .before .before .before .before .before in let opened = near .before .before in
     let left = opened .before .before .before .before .before in let near2 = left .before .before .before .before .before .before in let st = near2 .before .before in
     sym (length-take-le _ _ (omega (arith, st .pre .2, room .room .ensures .1, left .words .given))))
+    -- print-configuration-requires
     (λ c κs. let room = c .before in let near = room .before .before .before .before .before .before in let opened = near .before .before in
     let left = opened .before .before .before .before .before in let near2 = left .before .before .before .before .before .before in let st = near2 .before .before in
     (opened .open .ensures .ready (room .before .before .if1 .left) .bounded, length-take-le _ _ (omega (arith, st .pre .2, room .room .ensures .1, left .words .given)) ∙ room .room .ensures .0))
-    (λ c. search needs) (λ c. search needs) (λ c. search needs)
-    (λ c. search needs))
+    (λ c. search needs) (λ c. search needs) (λ c. search needs) (λ c. search needs))

@@ -11,21 +11,28 @@ pub ends-of-spec : {M : Type 1} → statement M
 ends-of-spec =
     tie.close
     (tie.spec
+    -- rule-requires
     (λ c κs. let st = c .before .before in
     (st .pre .0 .formed .sized, st .pre .1, st .pre .0 .types, rw (← st .pre .0 .rules) (st .pre .2)))
+    -- leaves-requires
     (λ c κs. omega (arith, c .rule .ensures .1))
+    -- enters-requires
     (λ c κs. omega (arith, c .before .rule .ensures .1))
+    -- sent-by-requires
     (λ c κs. let st = c .before .before .before .before .before in let a = st .args in
     let rule = c .before .before .rule .ensures .0 in
     (st .pre .0, st .pre .2, leaves-is (a .table .now) (a .r) rule (c .before .leaves .ensures .0), enters-is (a .table .now) (a .r) rule (c .enters .ensures .0)))
     (λ c. search needs) (λ c. search needs) (λ c. search needs) (λ c. search needs) (λ c. search needs)
+    -- slice-write-ends-2
     (λ c. let st = c .before .before .before .before .before .before in let a = st .args in
     omega (arith, length-set (a .ends .now) (a .r * 4) (c .before .before .leaves .result), st .pre .3, st .pre .2, st .pre .0 .bounded .rules))
     (λ c. search needs) (λ c. search needs)
+    -- slice-write-ends-3
     (λ c. let st = c .before .before .before .before .before .before in let a = st .args in
     let x = c .before .before .leaves .result in
     omega (arith, length-set (a .ends .now) (a .r * 4) x, length-set (set (a .ends .now) (a .r * 4) x) (a .r * 4 + 1) (c .before .enters .result), st .pre .3, st .pre .2, st .pre .0 .bounded .rules))
     (λ c. search needs)
+    -- returns
     (λ c. let a = c .before .before .before .before .before .before .args in
     let rule = c .before .before .before .rule .ensures .0 in
     let x = leaves-is (a .table .now) (a .r) rule (c .before .before .leaves .ensures .0) in

@@ -9,4 +9,5 @@ keep-spec =
     tie.close
     (tie.spec
     (λ c κs. search needs) (λ c κs. search needs) (λ c κs. search needs) (λ c. search needs) (λ c. search needs)
+    -- returns
     (λ c. search kept-by))

@@ -12,5 +12,6 @@ least-in-spec =
     tie.close
     (tie.spec
     (λ c. search needs) (λ c κs. search needs) (λ c κs. search needs)
+    -- returns
     (λ c. let a = c .before .before .before .before .args in
     c .least-of .ensures ∙ ap (λ (x : List ℕ). leastOf (thresholdIn x (a .s .correct + a .s .faulty) (a .t))) (c .before .coefficients .ensures .0)))

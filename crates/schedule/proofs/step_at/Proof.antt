@@ -9,4 +9,5 @@ step-at-spec =
     (tie.spec
     (λ c. search needs) (λ c κs. search needs) (λ c. search needs) (λ c κs. search needs) (λ c. search needs)
     (λ c κs. search needs) (λ c. search needs) (λ c κs. search needs)
+    -- returns
     (λ c. (cc, search needs)))

@@ -11,5 +11,7 @@ correct-count-spec =
     tie.close
     (tie.spec
     (λ c κs. search needs)
+    -- cast-result
     (λ c. record { fits = lt-of-le-of-lt (ones-few _ _ (c .before .fits .set .fits)) (lit< tt) })
+    -- returns
     (λ c. (rw (c .first .ensures) (ones-correct (c .before .args .c) (c .before .args .set)), ones-few _ _ (c .before .fits .set .fits))))

@@ -11,8 +11,11 @@ faulty-count-spec =
     tie.close
     (tie.spec
     (λ c. search needs) (λ c κs. search needs) (λ c κs. search needs)
+    -- sub-result
     (λ c. rw (c .first2 .ensures, c .before .first .ensures) (mask-less _ _))
+    -- cast-result
     (λ c. record { fits = lt-of-le-of-lt (ones-few _ _ (c .before .before .fits .set .fits)) (lit< tt) })
+    -- returns
     (λ c. let a = c .before .before .args in (
       rw (c .first2 .ensures, c .before .first .ensures, mask-faulty (a .c) (a .f)) (ones-faulty (a .c) (a .f) (a .set)),
       ones-few _ _ (c .before .before .fits .set .fits),

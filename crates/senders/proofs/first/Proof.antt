@@ -12,6 +12,9 @@ first-spec =
     tie.close
     (tie.spec
     (λ c. search needs)
+    -- sub-result
     (λ c. rw (shl-one (c .before .args .c) (c .if1 .taken)) (pow-pos (c .before .args .c)))
+    -- returns
     (λ c. rw (shl-one (c .before .args .c) (c .if1 .taken)))
+    -- returns-2
     (λ c. let e : c .before .args .c ≡ 64 = omega arith in rw e))

@@ -10,5 +10,6 @@ in-transit-spec =
     tie.close
     (tie.spec
     (λ c κs. search needs) (λ c κs. search needs)
+    -- returns
     (λ c. let st = c .before .before in let a = st .args in
     c .has .ensures ∙ mem-transit (a .c) (a .sent) (a .got) (a .q) (c .before .first .ensures) (st .pre .0) (st .fits .sent .fits) (st .fits .got .fits) (st .pre .1)))

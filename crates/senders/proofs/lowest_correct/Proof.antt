@@ -9,4 +9,5 @@ lowest-correct-spec =
     tie.close
     (tie.spec
     (λ c κs. search needs) (λ c κs. search needs)
+    -- returns
     (λ c. let a = c .before .before .args in (lowest-correct (a .c) (a .n) (c .before .first .ensures) (a .set) (a .other) (c .lowest-missing .ensures .0), c .lowest-missing .ensures .1)))

@@ -9,4 +9,5 @@ lowest-faulty-spec =
     tie.close
     (tie.spec
     (λ c κs. search needs) (λ c κs. search needs)
+    -- returns
     (λ c. let a = c .before .before .args in (lowest-faulty (a .c) (a .n) (c .before .first .ensures) (a .set) (c .before .before .pre .0) (c .before .before .pre .1) (c .lowest-missing .ensures .0), c .lowest-missing .ensures .1)))

@@ -9,5 +9,6 @@ lowest-in-transit-spec =
     tie.close
     (tie.spec
     (λ c κs. search needs) (λ c κs. search needs)
+    -- returns
     (λ c. let st = c .before .before in let a = st .args in
     (lowest-transit (a .c) (a .n) (c .before .first .ensures) (a .sent) (a .got) (st .pre .0) (st .pre .1) (st .fits .sent .fits) (c .lowest-missing .ensures .0), c .lowest-missing .ensures .1)))

@@ -12,6 +12,7 @@ missing-count-spec =
     tie.close
     (tie.spec
     (λ c κs. search needs)
+    -- returns
     (λ c. let s = c .before in (
       c .correct-count .ensures .0 ∙ count-same (s .args .c) _ _ (λ q h. mem-missing (s .args .set) (s .args .other) q (s .fits .other .fits) (omega arith)),
       c .correct-count .ensures .1,

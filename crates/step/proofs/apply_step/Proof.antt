@@ -15,8 +15,10 @@ apply-step-spec =
     tie.close
     (tie.spec
     (λ c κs. search needs)
+    -- same-length
     (λ c. let done = c .before .before in let st = done .before .before .before .before in let a = st .args in
     ap length (done .change .ensures) ∙ length-kept (a .s) (a .ends .now) (a .w .now) (meant (a .x)))
+    -- returns
     (λ c. let done = c .before .before in let st = done .before .before .before .before in
     let a = st .args in (
       λ d K. done .change .ensures ∙ sym (stepped-kept d (a .s) (a .ends .now) K (a .w .now) (meant (a .x)) (st .pre .2 .rule)),

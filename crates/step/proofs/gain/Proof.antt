@@ -9,5 +9,7 @@ pub gain-spec : {M : Type 1} → statement M
 gain-spec =
     tie.close
     (tie.spec
+    -- returns
     (λ c. rw (eq-eqb _ _ (c .if1 .taken)) (refl, omega arith))
+    -- returns-2
     (λ c. rw (ne-eqb _ _ (c .if1 .left)) (refl, omega arith)))

@@ -12,4 +12,5 @@ malformed-spec =
     tie.close
     (tie.spec
     (λ c κs. search needs) (λ c κs. search needs)
+    -- returns
     (λ c. let a = c .before .before .before .before .before .args in rw (malformed-if (a .s .level) (sized (a .s)) [] (meant (a .x))) cc))

@@ -12,7 +12,10 @@ not-in-transit-spec =
     tie.close
     (tie.spec
     (λ c κs. search needs)
+    -- returns
     (λ c. let a = c .before .before .before .args in rw (transit-if (a .s .level) (sized (a .s)) (a .w .now) (meant (a .x)), ← c .before .silent .ensures, c .if1 .taken))
+    -- in-transit-requires
     (λ c κs. let st = c .before .before .before in let a = st .args in
     (st .pre .0, names-type (a .s) _ (st .pre .1) (c .before .silent .ensures) (c .if1 .left), names-source (a .s) _ (st .pre .1) (c .before .silent .ensures) (c .if1 .left), st .pre .2))
+    -- returns-2
     (λ c. let a = c .before .before .before .before .args in rw (transit-if (a .s .level) (sized (a .s)) (a .w .now) (meant (a .x)), ← c .before .before .silent .ensures, c .before .if1 .left, c .in-transit .ensures)))

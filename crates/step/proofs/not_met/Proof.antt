@@ -27,18 +27,27 @@ not-met-spec =
     (tie.spec
     Inv-loop
     μ-loop
+    -- loop-holds
     (λ c. (omega arith, every-none _))
+    -- count-requires
     (λ c κs. let st = c .before .before .before .before in
     (st .pre .0, record { board = st .pre .2; type = c .loop-test .taken }, st .pre .4))
     (λ c κs. search needs)
+    -- add-count
     (λ c. omega (arith, c .before .count .ensures .1, c .gain .ensures .1))
+    -- least-requires
     (λ c κs. let st = c .before .before .before .before .before .before in
     (st .pre .1, omega (arith, st .pre .3, st .pre .0 .rules), omega (arith, c .before .before .loop-test .taken, st .pre .0 .types)))
+    -- returns
     (λ c. let turn = c .before .before .before .before .before in
     every-failed _ (below-not (ap₂ _+_ (c .before .before .before .count .ensures .0) (c .before .before .gain .ensures .0)) (c .before .least .ensures .0)) (lt-ltb _ _ (c .if1 .taken)) (c .before .before .before .before .loop-test .taken))
+    -- add-i
     (λ c. let tested = c .before .before .before .before in
     omega (arith, tested .loop-test .taken, tested .before .before .before .before .pre .0 .types))
+    -- loop-less
     (λ c. omega (arith, c .before .before .before .before .loop-test .taken))
+    -- loop-again
     (λ c. let turn = c .before .before .before .before .before in
     (omega (arith, c .before .before .before .before .loop-test .taken), every-more _ (turn .loop .i) (turn .loop .inv .1) (below-not (ap₂ _+_ (c .before .before .before .count .ensures .0) (c .before .before .gain .ensures .0)) (c .before .least .ensures .0)) (le-ltb _ _ (c .if1 .left))))
+    -- returns-2
     (λ c. every-held _ (c .before .loop .inv .1) (c .before .loop .inv .0) (c .loop-test .left)))

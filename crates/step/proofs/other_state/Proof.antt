@@ -10,4 +10,5 @@ other-state-spec =
     tie.close
     (tie.spec
     (λ c. search needs) (λ c. search needs) (λ c κs. search needs)
+    -- returns
     (λ c. cc))

@@ -15,8 +15,10 @@ step-spec =
     tie.close
     (tie.spec
     (λ c κs. search needs)
+    -- same-length
     (λ c. let done = c .before .before in let ends = done .before .before .before .before in let st = ends .before in let a = st .args in
     ap length (done .kept-step .ensures .1) ∙ length-left (a .s) (a .ends .now) (a .leasts .now) (a .w .now) (meant (a .x)))
+    -- returns
     (λ c. let done = c .before .before in let ends = done .before .before .before .before in let st = ends .before in
     let a = st .args in (
       λ d K. done .kept-step .ensures .0 ∙ sym (fault-kept d (a .s) (a .ends .now) (a .leasts .now) K (a .w .now) (meant (a .x))),

@@ -10,4 +10,5 @@ coefficients-spec =
     (tie.spec
     (λ c. search needs) (λ c. search needs) (λ c. search needs) (λ c. search needs) (λ c. search needs)
     (λ c. search needs)
+    -- returns
     (λ c. (search coefficients-cut, search coefficients-cut-long)))

@@ -10,4 +10,5 @@ forgets-spec =
     tie.close
     (tie.spec
     (λ c κs. search needs) (λ c κs. search needs) (λ c κs. search needs)
+    -- returns
     (λ c. cc))

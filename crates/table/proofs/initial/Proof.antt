@@ -8,4 +8,5 @@ initial-spec =
     tie.close
     (tie.spec
     (λ c κs. search needs) (λ c κs. search needs)
+    -- returns
     (λ c. cc))

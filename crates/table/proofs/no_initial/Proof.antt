@@ -23,9 +23,13 @@ no-initial-spec =
     Inv-loop
     μ-loop
     (λ c κs. search needs)
+    -- loop-holds
     (λ c. (search needs, search some-none))
     (λ c κs. search needs)
+    -- returns
     (λ c. search (initial-found, needs))
     (λ c. search needs) (λ c. search needs)
+    -- loop-again
     (λ c. (search needs, search some-more))
+    -- returns-2
     (λ c. search (initial-never, needs)))

@@ -10,4 +10,5 @@ no-state-spec =
     tie.close
     (tie.spec
     (λ c κs. search needs) (λ c κs. search needs) (λ c κs. search needs)
+    -- returns
     (λ c. cc))

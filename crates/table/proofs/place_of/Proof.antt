@@ -9,4 +9,5 @@ place-of-spec =
     tie.close
     (tie.spec
     (λ c. search needs) (λ c. search needs) (λ c. search needs) (λ c κs. search needs) (λ c. search needs)
+    -- returns
     (λ c. (search rule-at-is, search rule-at-inside)))

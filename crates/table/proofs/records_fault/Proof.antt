@@ -11,8 +11,11 @@ records-fault-spec =
     tie.close
     (tie.spec
     (λ c κs. search needs)
+    -- returns
     (λ c. search then-stop)
     (λ c κs. search needs) (λ c κs. search needs)
+    -- returns-2
     (λ c. search (then-pass, if-yes, needs))
     (λ c κs. search needs)
+    -- returns-3
     (λ c. search (then-pass, if-no, needs)))

@@ -10,4 +10,5 @@ rule-spec =
     (tie.spec
     (λ c κs. search needs) (λ c. search needs) (λ c. search needs) (λ c. search needs) (λ c. search needs)
     (λ c. search needs) (λ c. search needs)
+    -- returns
     (λ c. (search rule-cut, search rule-cut-long)))

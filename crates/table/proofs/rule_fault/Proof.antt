@@ -12,9 +12,15 @@ rule-fault-spec =
     tie.close
     (tie.spec
     (λ c κs. search needs)
+    -- returns
     (λ c. search (if-yes, if-no, needs))
+    -- forgets-requires
     (λ c κs. (search needs, search rule-ends))
+    -- returns-2
     (λ c. search (if-yes, if-no, needs))
+    -- sends-two-requires
     (λ c κs. (search needs, search rule-ends))
+    -- returns-3
     (λ c. search (if-yes, if-no, needs))
+    -- returns-4
     (λ c. search (if-yes, if-no, needs)))

@@ -11,5 +11,7 @@ state-fault-spec =
     tie.close
     (tie.spec
     (λ c κs. search needs)
+    -- returns
     (λ c. search (if-yes, needs))
+    -- returns-2
     (λ c. search (if-no, needs)))

@@ -9,4 +9,5 @@ state-off-spec =
     tie.close
     (tie.spec
     (λ c κs. search needs) (λ c κs. search needs) (λ c κs. search needs) (λ c. search needs) (λ c κs. search needs)
+    -- returns
     (λ c. search state-off-law))

@@ -21,9 +21,13 @@ states-fault-spec =
     Inv-loop
     μ-loop
     (λ c κs. search needs)
+    -- loop-holds
     (λ c. (search needs, first-none (stateFault _)))
     (λ c κs. search needs)
+    -- returns
     (λ c. search (first-found, needs))
     (λ c. search needs) (λ c. search needs)
+    -- loop-again
     (λ c. (search needs, search first-more))
+    -- returns-2
     (λ c. search (first-never, needs)))

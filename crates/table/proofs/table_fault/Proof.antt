@@ -12,12 +12,19 @@ table-fault-spec =
     tie.close
     (tie.spec
     (λ c κs. search needs) (λ c κs. search needs)
+    -- returns
     (λ c. search (if-yes, if-no, needs))
+    -- counts-off-requires
     (λ c κs. search long-by)
     (λ c κs. search needs)
+    -- returns-2
     (λ c. search (if-yes, if-no, needs))
+    -- distances-off-requires
     (λ c κs. search long-by)
     (λ c κs. search needs)
+    -- returns-3
     (λ c. search (if-yes, if-no, needs))
+    -- records-fault-requires
     (λ c κs. search sized-by)
+    -- returns-4
     (λ c. search (if-yes, if-no, needs)))

@@ -8,4 +8,5 @@ to-spec =
     tie.close
     (tie.spec
     (λ c κs. search needs) (λ c. search needs) (λ c κs. search needs)
+    -- returns
     (λ c. (cc, search needs)))

@@ -8,8 +8,11 @@ pub at-least-zero-spec : {M : Type 1} → statement M
 at-least-zero-spec =
     tie.close
     (tie.spec
+    -- cast-result
     (λ c. let e = toZ-ofZ (c .before .fits .z) in
     rw e (least-natural (c .before .args .z) (rw e at (c .if1 .left)) (c .before .pre)))
+    -- returns
     (λ c. least-negative (c .before .args .z) (rw (toZ-ofZ (c .before .fits .z)) at (c .if1 .taken)))
+    -- returns-2
     (λ c. let e = toZ-ofZ (c .before .fits .z) in
     rw e (least-size (c .before .args .z) (rw e at (c .if1 .left)))))

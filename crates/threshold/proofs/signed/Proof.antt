@@ -13,9 +13,11 @@ signed-spec =
     tie.close
     (tie.spec
     (λ c. search needs) (λ c. search needs)
+    -- sub-result
     (λ c. let x = c .args .x in
     let h = c .fits .x .fits in
     rw (small ((x + 128) % 256) (omega arith), turned-byte x h) (record { sfits = omega (arith, byte-small x h) }))
+    -- returns
     (λ c. let x = c .args .x in
     let h = c .fits .x .fits in
     rw (small ((x + 128) % 256) (omega arith), turned-byte x h, bits-back (signedByte x) (omega (arith, byte-small x h))) (refl, byte-small x h)))

@@ -18,14 +18,21 @@ coarsen-spec =
     (tie.spec
     Inv-loop
     μ-loop
+    -- loop-holds
     (λ c. let st = c .before in
     (omega arith, st .pre .0, coarsened-none (st .args .k) (st .args .c) (st .args .steps .now) (st .pre .2)))
+    -- write-tags-requires
     (λ c κs. records-kept (c .before .before .before .before .pre .2) (c .before .before .loop .inv .2 .long))
+    -- add-j
     (λ c. omega (arith, c .before .before .before .before .loop-test .taken, c .before .before .before .before .before .before .before .pre .1))
+    -- loop-less
     (λ c. omega (arith, c .before .before .before .before .loop-test .taken))
+    -- loop-again
     (λ c. let st = c .before .before .before .before .before .before .before in
     let inv = c .before .before .before .before .before .loop .inv in
     (omega (arith, inv .0), omega (arith, c .before .before .before .before .loop-test .taken), coarsened-more (st .args .k) (st .args .c) (st .args .steps .now) (st .pre .2) (inv .0) (inv .2) (c .before .before .write-tags .ensures)))
+    -- same-length
     (λ c. c .before .loop .inv .2 .long)
+    -- returns
     (λ c. let inv = c .before .loop .inv in
     coarsened-all (inv .2) (inv .1) (omega (arith, c .loop-test .left))))

@@ -10,6 +10,8 @@ lowest-of-spec =
     tie.close
     (tie.spec
     (λ c. search needs) (λ c κs. search needs)
+    -- returns
     (λ c. let a = c .before .before .args in (lowest-tag-correct (a .c) (a .f) (a .got) (a .out) (c .before .if1 .taken) (c .lowest-correct .ensures .0), omega arith))
     (λ c κs. search needs)
+    -- returns-2
     (λ c. let a = c .before .before .args in (lowest-tag-faulty (a .c) (a .f) (a .got) (a .out) (c .before .if1 .left) (c .before .before .pre .1) (c .lowest-faulty .ensures .0), omega arith)))

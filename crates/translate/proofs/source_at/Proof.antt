@@ -20,14 +20,18 @@ source-at-spec =
     tie.close
     (tie.spec
     (λ c κs. search needs)
+    -- source-requires
     (λ c κs. let read = c .before in let st = read .before .before .before .before .before in let a = st .args in
     let e = read .step-at .ensures .0 in
     (st .pre .0, holds-more (a .s) atRest inStep (a .w .now) (omega arith) (st .pre .2), read .step-at .ensures .1, source-what (a .s) (a .w .now) _ (st .pre .0) (subst⁻¹ (λ (x : Step). Formed (a .s) (lowIn (a .s) (a .w .now) x)) e (st .pre .5))))
+    -- apply-step-requires
     (λ c κs. let found = c .before in let read = found .before .before in let st = read .before .before .before .before .before in let a = st .args in
     (st .pre .0, st .pre .1, subst⁻¹ (Formed (a .s)) (source-step (a .s) (a .w .now) (recordAt (a .steps .now) (a .i)) (read .step-at .ensures .0) (found .source .ensures .0)) (st .pre .5), st .pre .2))
+    -- set-source-requires
     (λ c κs. let found = c .before .before .before .before .before in let st = found .before .before .before .before .before .before .before in
     (st .pre .3, st .pre .4, found .source .ensures .1))
     (λ c. search needs) (λ c. search needs)
+    -- returns
     (λ c. let done = c .before .before in let went = done .before .before .before .before in let found = went .before .before in let read = found .before .before in
     let st = read .before .before .before .before .before in let a = st .args in
     let e = source-step (a .s) (a .w .now) (recordAt (a .steps .now) (a .i)) (read .step-at .ensures .0) (found .source .ensures .0) in

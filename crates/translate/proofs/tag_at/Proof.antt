@@ -13,5 +13,6 @@ tag-at-spec =
     tie.close
     (tie.spec
     (λ c κs. search needs) (λ c κs. search needs) (λ c κs. search needs) (λ c. search needs)
+    -- returns
     (λ c. let done = c .before .before in let tagged = done .before .before in let read = tagged .before in let st = read .before .before .before in let a = st .args in
     done .set-source .ensures ∙ ap (set (a .steps .now) (a .i * 4 + 3)) (tagged .tag .ensures .0 ∙ ap (λ (x : Step). tagBy (a .j) (a .c) x .source) (read .step-at .ensures .0))))

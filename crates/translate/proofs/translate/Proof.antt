@@ -12,6 +12,7 @@ translate-spec =
     tie.close
     (tie.spec
     (λ c κs. search needs) (λ c κs. search needs) (λ c. search needs)
+    -- returns
     (λ c. let usual = c .before .before .before .before in let a = usual .before .before .before .before .args in
     let e = usual .usual-form .ensures in (
       c .before .before .translate-to .ensures .0 ∙ ap (λ (k : ℕ). translateToAnswer (a .bundle .now) (a .standing .now) k (length (a .out .now))) e,

@@ -9,6 +9,8 @@ translate-to-spec =
     tie.close
     (tie.spec
     (λ c. search needs) (λ c. search needs) (λ c. search needs)
+    -- translate-with-requires
     (λ c κs. (refl, refl, refl))
     (λ c. search needs)
+    -- returns
     (λ c. c .before .before .before .before .before .translate-with .ensures))

@@ -14,26 +14,33 @@ translate-with-spec =
     tie.close
     (tie.spec
     (λ c κs. search needs) (λ c κs. search needs) (λ c. search needs) (λ c. search needs)
+    -- returns
     (λ c. let opened = c .before .before .before .before .before .before .before in let near = opened .before .before .before .before .before .before in
     let st = near .before .before .before in let a = st .args in
     let E = enter-refused (a .bundle .now) (a .standing .now) (a .form) (a .out .now) (opens-unread (a .bundle .now) (a .standing .now) (opened .open .ensures) (c .before .if1 .taken)) (nothing-done (a .bundle .now) (a .standing .now) (opened .open .ensures) (c .answered .ensures)) in (E .answer, E .bytes))
+    -- form-requires
     (λ c κs. let opened = c .before .before .before .before .before .before in
     opened .open .ensures .ready (c .if1 .left) .read .trailed .long)
     (λ c κs. search needs) (λ c. search needs) (λ c. search needs)
+    -- returns-2
     (λ c. let form = c .before .before in let opened = form .before .before .before .before .before .before .before in
     let near = opened .before .before .before .before .before .before in let st = near .before .before .before in let a = st .args in
     let E = enter-same (a .bundle .now) (a .standing .now) (a .form) (a .out .now) (opens-clean (a .bundle .now) (a .standing .now) (opened .open .ensures) (form .before .if1 .left)) (other-is (a .bundle .now) (a .form) (form .form .ensures .0) ∙ c .before .if2 .taken) (c .answered2 .ensures) in (E .answer, E .bytes))
     (λ c κs. search needs) (λ c. search needs) (λ c. search needs)
+    -- returns-3
     (λ c. let form = c .before .before .before in let opened = form .before .before .before .before .before .before .before in
     let near = opened .before .before .before .before .before .before in let st = near .before .before .before in let a = st .args in
     let E = enter-short (a .bundle .now) (a .standing .now) (a .form) (a .out .now) (opens-clean (a .bundle .now) (a .standing .now) (opened .open .ensures) (form .before .if1 .left)) (other-is (a .bundle .now) (a .form) (form .form .ensures .0) ∙ c .before .before .if2 .left) (c .before .if3 .taken) (c .answered3 .ensures) in (E .answer, E .bytes))
     (λ c. search needs)
+    -- slice-aggregate-translate-in
     (λ c. sym (length-take-le _ _ (c .before .before .before .before .before .if3 .left)))
+    -- translate-in-requires
     (λ c κs. let form = c .before .before .before .before .before .before .before in let opened = form .before .before .before .before .before .before .before in
     let near = opened .before .before .before .before .before .before in let st = near .before .before .before in let a = st .args in
     let ready = opened .open .ensures .ready (form .before .if1 .left) in
     (ready-parts ready, ready .bounded, fair-by (a .bundle .now) (a .standing .now) ready, other-known (a .bundle .now) (a .form) (other-is (a .bundle .now) (a .form) (form .form .ensures .0) ∙ c .before .before .before .before .before .before .if2 .left), st .pre .2, length-take-le _ _ (c .before .before .before .before .before .if3 .left)))
     (λ c. search needs) (λ c. search needs) (λ c. search needs) (λ c. search needs)
+    -- returns-4
     (λ c. let done = c .before .before .before .before in let room = done .before .before .before .before .before .before in let form = room .before .before in
     let opened = form .before .before .before .before .before .before .before in let near = opened .before .before .before .before .before .before in
     let st = near .before .before .before in let a = st .args in

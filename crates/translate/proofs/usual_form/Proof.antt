@@ -13,7 +13,10 @@ unfolding usual
 usual-form-spec =
     tie.close
     (tie.spec
+    -- returns
     (λ c. if-no _ refl (no-form (c .before .before .args .bundle .now) (c .if1 .taken)) refl)
     (λ c κs. search needs)
+    -- returns-2
     (λ c. if-yes _ refl refl (eq-eqb _ 1 (sym (c .before .form .ensures .0) ∙ c .if2 .taken)))
+    -- returns-3
     (λ c. if-no _ refl (ne-eqb _ 1 (λ z. c .if2 .left (c .before .form .ensures .0 ∙ z))) refl))

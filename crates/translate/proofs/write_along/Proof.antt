@@ -21,24 +21,32 @@ write-along-spec =
     (tie.spec
     Inv-loop
     μ-loop
+    -- loop-holds
     (λ c. let st = c .before .before .before in let a = st .args in
     (omega arith, holds-more (a .s) 256 (256 + 2 * 0) (a .w .now) (omega arith) (st .pre .1), refl, alongs-none (a .s) (a .ends .now) (a .w .now) (length (a .steps .now) / 4) (a .steps .now) (st .pre .2 .whole)))
+    -- source-at-requires
     (λ c κs. let turn = c .before .before .before in let st = turn .before .before .before .before in let a = st .args in
     let t = c .before .before .loop-test .taken in
     (st .pre .0, st .pre .3 .kept .long, holds-more (a .s) (256 + 2 * turn .loop .i) atRest (turn .loop .w) (omega (arith, t, st .pre .2 .few)) (turn .loop .inv .1), omega (arith, t, st .pre .2 .few), omega (arith, t, turn .loop .inv .2), alongs-formed (a .s) (a .ends .now) (a .w .now) (length (a .steps .now) / 4) (a .steps .now) (st .pre .2 .whole) (turn .loop .inv .3) t (st .pre .3)))
+    -- add-i
     (λ c. let done = c .before .before .before .before in let turn = done .before .before .before .before in let st = turn .before .before .before .before in
     let a = st .args in
     omega (arith, done .before .before .before .loop-test .taken, st .pre .2 .few))
+    -- loop-less
     (λ c. let done = c .before .before .before .before in let turn = done .before .before .before .before in let st = turn .before .before .before .before in
     let a = st .args in
     omega (arith, done .before .before .before .loop-test .taken))
+    -- loop-again
     (λ c. let done = c .before .before .before .before in let turn = done .before .before .before .before in let st = turn .before .before .before .before in
     let a = st .args in
     let t = done .before .before .before .loop-test .taken in
     let i = turn .loop .i in
     (omega (arith, t), holds-more (a .s) (256 + 2 * i + 2) (256 + 2 * (i + 1)) _ (omega arith) (done .source-at .ensures .1 .0 (256 + 2 * i) (omega arith) (turn .loop .inv .1)), ap length (done .source-at .ensures .1 .1) ∙ length-set (turn .loop .steps) (i * 4 + 3) _ ∙ turn .loop .inv .2, alongs-more (a .s) (a .ends .now) (a .w .now) (length (a .steps .now) / 4) (a .steps .now) (st .pre .2 .whole) (turn .loop .inv .3) t (done .source-at .ensures .0) (done .source-at .ensures .1 .1)))
+    -- same-length
     (λ c. let turn = c .before in let st = turn .before .before .before .before in
     turn .loop .inv .1 .fits ∙ sym (st .pre .1 .fits))
+    -- same-length-2
     (λ c. c .before .loop .inv .2)
+    -- returns
     (λ c. let turn = c .before in let st = turn .before .before .before .before in let a = st .args in
     alongs-all (a .s) (a .ends .now) (a .w .now) (length (a .steps .now) / 4) (a .steps .now) (st .pre .2 .whole) (turn .loop .inv .3) (turn .loop .inv .0) (omega (arith, c .loop-test .left))))

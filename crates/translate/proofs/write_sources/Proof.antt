@@ -11,9 +11,10 @@ write-sources-spec =
     tie.close
     (tie.spec
     (λ c κs. search needs) (λ c. search needs)
+    -- slice-aggregate-write-from-start
     (λ c. let room = c .before in let st = room .before .before .before .before .before in
     sym (length-take-le _ _ (omega (arith, st .pre .2, room .room .ensures .1))))
+    -- write-from-start-requires
     (λ c κs. let room = c .before .before in let st = room .before .before .before .before .before in
     (st .pre .0, st .pre .1, length-take-le _ _ (omega (arith, st .pre .2, room .room .ensures .1)) ∙ room .room .ensures .0, st .pre .3, st .pre .4))
-    (λ c. search needs) (λ c. search needs)
-    (λ c. search needs))
+    (λ c. search needs) (λ c. search needs) (λ c. search needs))

@@ -19,16 +19,23 @@ write-tags-spec =
     (tie.spec
     Inv-loop
     μ-loop
+    -- loop-holds
     (λ c. let st = c .before in
     (omega arith, tags-none (st .args .j) (st .args .c) (length (st .args .steps .now) / 4) (st .args .steps .now) (st .pre .whole)))
+    -- tag-at-requires
     (λ c κs. let st = c .before .before .before .before in
     (omega (arith, c .before .loop-test .taken, st .pre .few), omega (arith, c .before .loop-test .taken, c .before .before .loop .inv .1 .long)))
+    -- add-i
     (λ c. let st = c .before .before .before .before .before .before .before in
     omega (arith, c .before .before .before .before .loop-test .taken, st .pre .few))
+    -- loop-less
     (λ c. omega (arith, c .before .before .before .before .loop-test .taken))
+    -- loop-again
     (λ c. let st = c .before .before .before .before .before .before .before in
     let t = c .before .before .before .before .loop-test .taken in
     (omega (arith, t), tags-more (st .args .j) (st .args .c) (length (st .args .steps .now) / 4) (st .args .steps .now) (st .pre .whole) (c .before .before .before .before .before .loop .inv .1) t (c .before .before .tag-at .ensures)))
+    -- same-length
     (λ c. c .before .loop .inv .1 .long ∙ sym (c .before .before .before .pre .whole))
+    -- returns
     (λ c. let st = c .before .before .before in
     tags-all (st .args .j) (st .args .c) (length (st .args .steps .now) / 4) (st .args .steps .now) (st .pre .whole) (c .before .loop .inv .1) (c .before .loop .inv .0) (omega (arith, c .loop-test .left))))

@@ -8,13 +8,18 @@ pub cell-at-spec : {M : Type 1} → statement M
 cell-at-spec =
     tie.close
     (tie.spec
+    -- mul-result
     (λ c. let st = c .before in
     omega (arith, row-at-few (st .args .s) (st .pre .0) (st .pre .1)))
+    -- add-result
     (λ c. let st = c .before .before in
     omega (arith, row-at-few (st .args .s) (st .pre .0) (st .pre .1), st .pre .0 .boards))
+    -- mul-result-2
     (λ c. let st = c .before .before .before in
     omega (arith, cell-few (st .args .s) (st .pre .0) (st .pre .1)))
+    -- add-result-2
     (λ c. let st = c .before .before .before in
     omega (arith, row-at-few (st .args .s) (st .pre .0) (st .pre .1), cell-few (st .args .s) (st .pre .0) (st .pre .1), st .pre .0 .boards))
+    -- returns
     (λ c. let st = c .before .before .before in
     (cell-is (st .args .s) (st .pre .0) (st .pre .1), cell-inside (st .args .s) (st .pre .0) (st .pre .1), omega (arith, row-at-few (st .args .s) (st .pre .0) (st .pre .1), cell-few (st .args .s) (st .pre .0) (st .pre .1), st .pre .0 .boards))))

@@ -13,12 +13,16 @@ correct-in-spec =
     tie.close
     (tie.spec
     (λ c κs. search needs) (λ c κs. search needs) (λ c. search needs)
+    -- shared-slice-read-from-correct
     (λ c. let st = c .before .before .before .before in
     omega (arith, st .pre .2, wide-some (st .args .s .level) .0, c .before .before .cell-at .ensures .1))
     (λ c. search needs)
+    -- shared-slice-read-from-correct-2
     (λ c. let st = c .before .before .before .before .before in
     omega (arith, st .pre .2, c .before .before .last-of .ensures .1, c .before .before .before .cell-at .ensures .1))
+    -- from-correct-requires
     (λ c κs. c .before .before .before .before .before .pre .0 .boards)
+    -- returns
     (λ c. let last = c .before .before .before in let first = last .before in let a = first .before .before .args in
     let s = a .s in
     c .from-correct .ensures ∙ ap (fromCorrect (s .level) (s .correct) (s .faulty)) (coll-words (s .level) (s .correct) (s .faulty) (s .types) (a .p) (a .m) (a .w .now) (first .cell-at .ensures .0) (last .last-of .ensures .0))))

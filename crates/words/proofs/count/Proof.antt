@@ -13,12 +13,16 @@ count-spec =
     tie.close
     (tie.spec
     (λ c κs. search needs) (λ c κs. search needs) (λ c. search needs)
+    -- shared-slice-read-card
     (λ c. let st = c .before .before .before .before in let a = st .args in
     omega (arith, st .pre .2 .fits, wide-some (a .s .level) .0, c .before .before .cell-at .ensures .1))
     (λ c. search needs)
+    -- shared-slice-read-card-2
     (λ c. let st = c .before .before .before .before .before in let a = st .args in
     omega (arith, st .pre .2 .fits, c .before .before .last-of .ensures .1, c .before .before .before .cell-at .ensures .1))
+    -- card-requires
     (λ c κs. let st = c .before .before .before .before .before in
     ((st .pre .0 .boards, st .pre .0 .wide), λ ne. (st .pre .2 .small ne _, st .pre .2 .small ne _)))
+    -- returns
     (λ c. let a = c .before .before .before .before .before .before .args in
     (c .card .ensures .0 ∙ ap (columnIn (a .s) .card) (coll-words (a .s .level) (a .s .correct) (a .s .faulty) (a .s .types) (a .p) (a .m) (a .w .now) (c .before .before .before .before .cell-at .ensures .0) (c .before .before .before .last-of .ensures .0)), c .card .ensures .1)))

@@ -11,6 +11,6 @@ enter-spec =
     tie.close
     (tie.spec
     (λ c. search needs) (λ c. search needs)
+    -- returns
     (λ c. let a = c .before .before .args in sym (set-getD (a .w .now) (a .p) 0) ∙ ap (set (a .w .now) (a .p)) (c .if1 .taken))
-    (λ c. search needs) (λ c. search needs) (λ c. search needs)
-    (λ c. search needs))
+    (λ c. search needs) (λ c. search needs) (λ c. search needs) (λ c. search needs))

@@ -15,15 +15,20 @@ first-source-spec =
     tie.close
     (tie.spec
     (λ c κs. search needs) (λ c κs. search needs) (λ c κs. search needs) (λ c. search needs)
+    -- shared-slice-read-first-source
     (λ c. let st = c .before .before .before .before .before in let a = st .args in
     omega (arith, st .pre .2 .fits, wide-some (a .s .level) .0, c .before .before .before .cell-at .ensures .1))
     (λ c. search needs)
+    -- shared-slice-read-first-source-2
     (λ c. let st = c .before .before .before .before .before .before in let a = st .args in
     omega (arith, st .pre .2 .fits, c .before .before .before .last-of .ensures .1, c .before .before .before .before .cell-at .ensures .1))
     (λ c. search needs)
+    -- shared-slice-read-first-source-3
     (λ c. let st = c .before .before .before .before .before .before .before in let a = st .args in
     omega (arith, st .pre .2 .fits, c .before .before .before .sent-at .ensures .0, sent-in-room (a .s) (a .m) (st .pre .1 .type)))
+    -- first-source-requires
     (λ c κs. let st = c .before .before .before .before .before .before .before in
     ((st .pre .0 .boards, st .pre .0 .wide), λ ne. st .pre .2 .small ne _))
+    -- returns
     (λ c. let placed = c .before .before .before .before in let a = placed .before .before .before .before .args in
     c .first-source .ensures ∙ ap₂ (λ got out. least (columnIn (a .s) .sources) (λ q. columnIn (a .s) .inTransit q got out)) (coll-words (a .s .level) (a .s .correct) (a .s .faulty) (a .s .types) (a .p) (a .m) (a .w .now) (placed .before .before .cell-at .ensures .0) (placed .before .last-of .ensures .0)) (ap (shown (a .s .level) (a .s .correct) (a .s .faulty)) (sent-word (a .s .correct) (a .s .types) (wide (a .s .level)) (a .m) (a .w .now) (placed .sent-at .ensures .0)))))

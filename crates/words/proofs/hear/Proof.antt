@@ -18,6 +18,7 @@ hear-spec =
     tie.close
     (tie.spec
     (λ c κs. search needs)
+    -- receive-requires
     (λ c κs. let st = c .before .before .before in let a = st .args in
     let k = a .s .level in
     let i = c .before .cell-at in (
@@ -25,6 +26,7 @@ hear-spec =
       λ n. (source-slot k (a .s .correct) (a .s .faulty) (a .q) n (st .pre .2 .below), st .pre .3 .small n _),
     ))
     (λ c. search needs)
+    -- returns
     (λ c. let a = c .before .before .before .before .before .before .args in
     let k = a .s .level in
     let e = ap (λ (x : ℕ). x + slot k (a .q)) (c .before .before .before .before .cell-at .ensures .0) ∙ cell-next (a .s .correct) (a .s .types) (wide k) (a .p) (a .m) (slot k (a .q)) in

@@ -10,5 +10,6 @@ room-spec =
     tie.close
     (tie.spec
     (λ c κs. search needs) (λ c. search needs)
+    -- returns
     (λ c. let st = c .before .before in let a = st .args in
     (rw (c .before .sent-at .ensures .0) (room-is (a .s)), omega (arith, st .pre .types))))

@@ -10,11 +10,15 @@ unfolding sentAt
 sent-at-spec =
     tie.close
     (tie.spec
+    -- mul-result
     (λ c. let st = c .before in
     omega (arith, rows-few (st .args .s) (st .pre .0)))
+    -- add-result
     (λ c. let st = c .before .before in
     omega (arith, rows-few (st .args .s) (st .pre .0), st .pre .0 .boards))
+    -- add-result-2
     (λ c. let st = c .before .before in
     omega (arith, rows-few (st .args .s) (st .pre .0), st .pre .0 .boards))
+    -- returns
     (λ c. let st = c .before .before in
     (rw (rows-are (st .args .s) (st .pre .0)), omega (arith, rows-few (st .args .s) (st .pre .0), st .pre .0 .boards))))

@@ -15,9 +15,12 @@ sent-in-spec =
     tie.close
     (tie.spec
     (λ c κs. search needs) (λ c. search needs)
+    -- shared-slice-read-from-correct
     (λ c. let st = c .before .before .before in
     omega (arith, st .pre .2, c .before .sent-at .ensures .0, sent-in-room (st .args .s) (st .args .m) (st .pre .1)))
+    -- from-correct-requires
     (λ c κs. c .before .before .before .pre .0 .boards)
+    -- returns
     (λ c. let place = c .before .before in let a = place .before .before .args in
     let s = a .s in
     c .from-correct .ensures ∙ told-word (s .level) (s .correct) (s .faulty) _ 0 ∙ ap (λ (x : ℕ). fromCorrect (s .level) (s .correct) (s .faulty) (shown (s .level) (s .correct) (s .faulty) x)) (sent-word (s .correct) (s .types) (wide (s .level)) (a .m) (a .w .now) (place .sent-at .ensures .0))))

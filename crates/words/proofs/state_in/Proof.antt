@@ -10,7 +10,10 @@ unfolding size state
 state-in-spec =
     tie.close
     (tie.spec
+    -- mul-result
     (λ c. omega (arith, c .pre .0 .boards, c .pre .1))
+    -- shared-slice-read-result
     (λ c. let st = c .before in
     omega (arith, st .pre .1, st .pre .2))
+    -- returns
     (λ c. refl))

@@ -10,5 +10,7 @@ end-spec =
     tie.close
     (tie.spec
     (λ c κs. search needs) (λ c κs. search needs)
+    -- returns
     (λ c. closed-stuck (c .before .before .skip .ensures) (c .before .if1 .taken) (omega (arith, c .failed .ensures .0), c .failed .ensures .1))
+    -- returns-2
     (λ c. search (closed-ended, needs)))

@@ -12,8 +12,10 @@ ends-spec =
     tie.close
     (tie.spec
     (λ c κs. search needs) (λ c. search needs)
+    -- follow-requires
     (λ c κs. omega (arith, ap (λ (z : Cursor). z .place) (c .before .stand .ensures), c .before .before .before .before .pre .0))
     (λ c κs. search needs) (λ c κs. search needs) (λ c κs. search needs) (λ c κs. search needs) (λ c κs. search needs)
     (λ c. search needs)
+    -- returns
     (λ c. let put = c .before .before .before .before .before .before .before in let named = put .before .before .before in let pointed = named .before in
     arrow-read _ (pointed .before .before .stand .ensures) (pointed .follow .ensures) (named .number .ensures) (put .before .byte .ensures) (put .put .ensures) (c .before .before .before .byte2 .ensures) (c .before .before .put2 .ensures .1)))

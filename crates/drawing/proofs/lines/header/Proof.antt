@@ -14,7 +14,9 @@ header-spec =
     tie.close
     (tie.spec
     (λ c κs. search needs) (λ c. search needs)
+    -- follow-requires
     (λ c κs. omega (arith, ap (λ (z : Cursor). z .place) (c .before .stand .ensures)))
     (λ c κs. search needs) (λ c. search needs) (λ c κs. search needs) (λ c κs. search needs) (λ c. search needs)
     (λ c κs. search needs)
+    -- returns
     (λ c. search header-read))

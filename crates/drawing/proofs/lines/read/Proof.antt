@@ -20,10 +20,16 @@ read-spec =
     Inv-loop
     μ-loop
     (λ c κs. search needs)
+    -- loop-holds
     (λ c. (search lines-begin, refl))
     (λ c κs. search needs)
+    -- line-requires
     (λ c κs. let f = free (c .before .before .before .loop .g) (c .before .before .going .ensures) (c .before .if1 .taken) in let s = c .before .before .before .loop .inv .0 in (s .within, f .not-stuck, f .not-ended, s .knows (f .not-stuck)))
+    -- loop-less
     (λ c. lines-less (c .before .before .before .before .before .before .loop .g) (free (c .before .before .before .before .before .before .loop .g) (c .before .before .before .before .before .going .ensures) (c .before .before .before .before .if1 .taken)) (c .before .before .line .ensures))
+    -- loop-again
     (λ c. (search lines-go-on, search needs))
+    -- same-length
     (λ c. c .before .before .loop .inv .1)
+    -- returns
     (λ c. (search lines-end, c .before .before .loop .inv .1)))

@@ -12,19 +12,24 @@ rule-line-spec =
     (tie.spec
     (λ c κs. search needs) (λ c. search needs) (λ c κs. search needs) (λ c. search needs) (λ c. search needs)
     (λ c κs. search needs)
+    -- add-t14
     (λ c. let label = c .before .before .before in let follow = label .before .before .before .before in let ends = follow .before .before .before .before in
     let start = ends .before .before .before .before in
     omega (arith, start .pre .0, start .pre .1, start .pre .3 .bytes-fit, start .pre .3 .lines-fit, start .pre .3 .few, start .good .0 .1))
+    -- add-t17
     (λ c. let label = c .before .before .before .before in let follow = label .before .before .before .before in let ends = follow .before .before .before .before in
     let start = ends .before .before .before .before in
     omega (arith, start .pre .0, start .pre .1, start .pre .3 .bytes-fit, start .pre .3 .lines-fit, start .pre .3 .few, start .good .0 .1))
+    -- mul-t18
     (λ c. let label = c .before .before .before .before .before in let follow = label .before .before .before .before in
     let ends = follow .before .before .before .before in let start = ends .before .before .before .before in
     omega (arith, start .pre .0, start .pre .1, start .pre .3 .bytes-fit, start .pre .3 .lines-fit, start .pre .3 .few, start .good .0 .1))
+    -- add-t19
     (λ c. let label = c .before .before .before .before .before in let follow = label .before .before .before .before in
     let ends = follow .before .before .before .before in let start = ends .before .before .before .before in
     omega (arith, start .pre .0, start .pre .1, start .pre .3 .bytes-fit, start .pre .3 .lines-fit, start .pre .3 .few, start .good .0 .1))
     (λ c. search needs)
+    -- returns
     (λ c. let label = c .before .before .before .before .before in let follow = label .before .before .before .before in
     let ends = follow .before .before .before .before in let start = ends .before .before .before .before in
     rule-read _ _ (start .pre .1) (start .pre .3) (ends .ends .ensures) (follow .follow .ensures) refl (label .label .ensures)))

@@ -14,6 +14,8 @@ state-line-spec =
     tie.close
     (tie.spec
     (λ c κs. search needs)
+    -- label-requires
     (λ c κs. (omega (arith, ap (λ (z : Cursor). z .place) (c .before .stand .ensures), c .before .before .before .before .pre .0), omega arith, omega (arith, c .before .before .before .before .pre .2 .bytes-fit, c .before .before .before .before .pre .1, c .before .before .before .before .pre .0, c .before .before .before .before .good .0 .1)))
     (λ c. search needs) (λ c. search needs) (λ c. search needs)
+    -- returns
     (λ c. search state-read))

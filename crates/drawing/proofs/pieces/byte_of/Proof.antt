@@ -11,5 +11,7 @@ byte-of-spec =
     tie.close
     (tie.spec
     (λ c. search needs)
+    -- returns
     (λ c. (rw (c .if1 .taken), let p = c .before .pre .1 (c .if1 .taken) in omega (arith, p)))
+    -- returns-2
     (λ c. (rw (c .if1 .left), search needs)))

@@ -10,8 +10,12 @@ digits-spec =
     tie.close
     (tie.spec
     (λ c κs. search needs) (λ c κs. search needs) (λ c. search needs)
+    -- sub-rest
     (λ c. first-digit _ _ (c .before .before .before .before .args .negative) (c .before .before .peek .ensures .0) (c .before .begins .ensures) (c .if1 .taken) .least)
+    -- rest-requires
     (λ c κs. let f = first-digit _ _ (c .before .before .before .before .args .negative) (c .before .before .peek .ensures .0) (c .before .begins .ensures) (c .if1 .taken) in (f .there, f .size, f .positive))
+    -- returns
     (λ c. search digits-begin)
     (λ c κs. search needs)
+    -- returns-2
     (λ c. search digits-none))

@@ -17,7 +17,10 @@ follow-spec =
     (tie.spec
     Inv-loop
     μ-loop
+    -- loop-holds
     (λ c. search (plan-begins, needs))
     (λ c κs. search needs) (λ c κs. search needs) (λ c. search needs) (λ c. search needs)
+    -- loop-again
     (λ c. search plan-goes-on)
+    -- returns
     (λ c. search (plan-ends, needs)))

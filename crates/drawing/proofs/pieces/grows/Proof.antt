@@ -9,7 +9,10 @@ grows-spec =
     tie.close
     (tie.spec
     (λ c κs. search needs) (λ c. search needs)
+    -- sub-result
     (λ c. search digit-least)
     (λ c. search needs)
+    -- returns
     (λ c. search goes-on-digit)
+    -- returns-2
     (λ c. search goes-on-other))

@@ -8,10 +8,14 @@ pub item-spec : {M : Type 1} → statement M
 item-spec =
     tie.close
     (tie.spec
+    -- returns
     (λ c. search (item-stays, needs))
     (λ c κs. search needs) (λ c κs. search needs)
+    -- returns-2
     (λ c. search item-gap)
     (λ c κs. search needs) (λ c κs. search needs) (λ c. search needs) (λ c κs. search needs)
+    -- returns-3
     (λ c. search item-taken)
     (λ c κs. search needs)
+    -- returns-4
     (λ c. search item-refused))

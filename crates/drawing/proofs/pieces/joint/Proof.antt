@@ -8,8 +8,11 @@ pub joint-spec : {M : Type 1} → statement M
 joint-spec =
     tie.close
     (tie.spec
+    -- returns
     (λ c. search (joint-none, needs))
     (λ c. search needs) (λ c κs. search needs)
+    -- returns-2
     (λ c. search joint-type)
     (λ c. search needs) (λ c κs. search needs)
+    -- returns-3
     (λ c. search joint-other))

@@ -10,4 +10,5 @@ label-spec =
     (tie.spec
     (λ c. search needs) (λ c κs. search needs) (λ c κs. search needs) (λ c. search needs) (λ c κs. search needs)
     (λ c. search needs)
+    -- returns
     (λ c. search label-read))

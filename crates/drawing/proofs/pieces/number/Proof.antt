@@ -9,9 +9,14 @@ number-spec =
     tie.close
     (tie.spec
     (λ c κs. search needs)
+    -- returns
     (λ c. search number-stays)
     (λ c κs. search needs) (λ c. search needs)
+    -- digits-requires
     (λ c κs. sign-there _ _ (c .before .peek .ensures .0) (c .if2 .taken))
+    -- returns-2
     (λ c. search number-minus)
+    -- digits-requires-2
     (λ c κs. (search needs, search sign-none))
+    -- returns-3
     (λ c. search number-plain))

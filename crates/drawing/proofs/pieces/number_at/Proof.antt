@@ -10,4 +10,5 @@ number-at-spec =
     tie.close
     (tie.spec
     (λ c κs. search needs) (λ c κs. search needs) (λ c κs. search needs) (λ c κs. search needs) (λ c. search needs)
+    -- returns
     (λ c. (search numbered, cc)))

@@ -18,10 +18,15 @@ numbers-spec =
     (tie.spec
     Inv-loop
     μ-loop
+    -- loop-holds
     (λ c. search (numbers-begin, needs))
     (λ c. search needs)
+    -- number-at-requires
     (λ c κs. (search needs, omega arith))
     (λ c. search needs) (λ c. search needs)
+    -- loop-again
     (λ c. search numbers-go-on)
+    -- same-length
     (λ c. search numbers-length)
+    -- returns
     (λ c. search (numbers-end, needs)))

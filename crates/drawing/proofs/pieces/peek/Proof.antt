@@ -10,5 +10,7 @@ peek-spec =
     tie.close
     (tie.spec
     (λ c κs. search needs)
+    -- returns
     (λ c. (search peek-there, search needs))
+    -- returns-2
     (λ c. (search (peek-over, needs), omega arith)))

@@ -20,12 +20,19 @@ rest-spec =
     Inv-loop
     μ-loop
     (λ c κs. search needs)
+    -- loop-holds
     (λ c. search (rest-begins, needs))
     (λ c κs. search needs) (λ c κs. search needs) (λ c. search needs) (λ c κs. search needs)
+    -- sub-w
     (λ c. goes-on-next _ _ _ (c .before .before .before .peek .ensures .0) (c .before .before .grows .ensures) (c .before .if1 .taken) (c .peek2 .ensures .0) (c .before .before .before .before .before .largest .ensures .1) .least)
+    -- add-w
     (λ c. omega (arith, goes-on-next _ _ _ (c .before .before .before .peek .ensures .0) (c .before .before .grows .ensures) (c .before .if1 .taken) (c .peek2 .ensures .0) (c .before .before .before .before .before .largest .ensures .1) .most))
+    -- add-j
     (λ c. omega (arith, goes-on-next _ _ _ (c .before .before .before .peek .ensures .0) (c .before .before .grows .ensures) (c .before .if1 .taken) (c .peek2 .ensures .0) (c .before .before .before .before .before .largest .ensures .1) .there, c .before .before .before .before .before .before .before .good .0 .0))
+    -- loop-less
     (λ c. omega (arith, goes-on-next _ _ _ (c .before .before .before .peek .ensures .0) (c .before .before .grows .ensures) (c .before .if1 .taken) (c .peek2 .ensures .0) (c .before .before .before .before .before .largest .ensures .1) .there))
+    -- loop-again
     (λ c. search rest-goes-on)
     (λ c κs. search needs)
+    -- returns
     (λ c. search rest-ends))

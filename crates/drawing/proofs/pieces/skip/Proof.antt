@@ -20,9 +20,13 @@ skip-spec =
     (tie.spec
     Inv-loop
     μ-loop
+    -- loop-holds
     (λ c. search (gap-begins, needs))
     (λ c κs. search needs) (λ c κs. search needs)
+    -- returns
     (λ c. search gap-stops)
     (λ c. search needs) (λ c. search needs)
+    -- loop-again
     (λ c. search gap-goes-on)
+    -- returns-2
     (λ c. search (gap-ends, needs)))

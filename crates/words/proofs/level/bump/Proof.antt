@@ -14,9 +14,12 @@ bump-spec =
     tie.close
     (tie.spec
     (λ c κs. search needs)
+    -- add-result
     (λ c. let st = c .before in
     omega (arith, st .pre .1 (c .if1 .left)))
+    -- returns
     (λ c. let a = c .before .before .args in
     sets (λ (k : ℕ). c .with .result ≡ bump k (a .q) (a .word)) (c .with .ensures) _ (c .before .if1 .taken))
+    -- returns-2
     (λ c. let a = c .before .args in
     counts (λ (k : ℕ). a .word + 1 ≡ bump k (a .q) (a .word)) (λ j. omega arith) _ (c .if1 .left)))

@@ -11,8 +11,11 @@ pub count-in-transit-spec : {M : Type 1} → statement M
 count-in-transit-spec =
     tie.close
     (tie.spec
+    -- limit-requires
     (λ c κs. (c .before .pre .0, c .before .pre .3))
+    -- returns
     (λ c. let st = c .before .before in let a = st .args in
     ap (λ (x : ℕ). a .v below x) (c .limit .ensures ∙ ap (λ (x : ℕ). limitOf x (a .f) (a .out)) (st .pre .1)) ∙ first-transit (a .level) (a .c) (a .f) (a .q) (a .v) (a .w) (a .out) (st .pre .2) (c .before .if1 .taken))
+    -- returns-2
     (λ c. let st = c .before in let a = st .args in
     ap (λ (x : ℕ). a .q below x && a .w below a .f) (st .pre .1) ∙ other-transit (a .level) (a .c) (a .f) (a .q) (a .v) (a .w) (a .out) (st .pre .2) (c .if1 .left)))

@@ -10,10 +10,14 @@ pub first-count-spec : {M : Type 1} → statement M
 first-count-spec =
     tie.close
     (tie.spec
+    -- limit-requires
     (λ c κs. (c .pre .0, c .pre .3))
+    -- returns
     (λ c. let st = c .before .before in let a = st .args in
     first-zero (a .c) (a .f) (a .v) (a .w) (a .out) (a .level) (st .pre .2) (omega (arith, c .if1 .taken, c .before .limit .ensures ∙ ap (λ (x : ℕ). limitOf x (a .f) (a .out)) (st .pre .1))))
+    -- returns-2
     (λ c. let st = c .before .before .before in let a = st .args in
     first-one (a .c) (a .f) (a .v) (a .w) (a .out) (a .level) (st .pre .2) (omega (arith, c .before .if1 .left, c .before .before .limit .ensures ∙ ap (λ (x : ℕ). limitOf x (a .f) (a .out)) (st .pre .1))) (c .if2 .taken))
+    -- returns-3
     (λ c. let st = c .before .before .before in let a = st .args in
     st .pre .1 ∙ first-none (a .c) (a .f) (a .v) (a .w) (a .out) (a .level) (st .pre .2) (omega (arith, c .before .if1 .left, c .before .before .limit .ensures ∙ ap (λ (x : ℕ). limitOf x (a .f) (a .out)) (st .pre .1))) (omega (arith, c .if2 .left))))

@@ -14,7 +14,9 @@ from-correct-spec =
     tie.close
     (tie.spec
     (λ c κs. search needs)
+    -- returns
     (λ c. let a = c .before .before .args in
     sets (λ (k : ℕ). c .correct-count .result ≡ fromCorrect k (a .c) (a .f) (coll k (a .c) (a .f) (two (a .v) (a .w)))) (c .correct-count .ensures .0) _ (c .before .if1 .taken))
+    -- returns-2
     (λ c. let a = c .before .args in
     correct-counted (a .level) (a .c) (a .f) (a .v) (a .w) (c .if1 .left)))

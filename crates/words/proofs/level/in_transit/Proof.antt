@@ -15,8 +15,10 @@ in-transit-spec =
     tie.close
     (tie.spec
     (λ c κs. search needs)
+    -- count-in-transit-requires
     (λ c κs. let st = c .before in
     (omega (arith, st .pre .0 .1), st .pre .0 .2, c .if1 .left, st .pre .1 (c .if1 .left)))
+    -- returns
     (λ c. let a = c .before .before .args in
     sets (λ (k : ℕ). c .set-in-transit .result ≡ column k (a .c) (a .f) .inTransit (a .q) (coll k (a .c) (a .f) (two (a .v) (a .w))) (shown k (a .c) (a .f) (a .out))) (c .set-in-transit .ensures) _ (c .before .if1 .taken))
     (λ c. search needs))

@@ -12,5 +12,6 @@ limit-spec =
     tie.close
     (tie.spec
     (λ c κs. search needs) (λ c κs. search needs)
+    -- returns
     (λ c. let a = c .before .before .args in
     c .choose .ensures ∙ ap (λ (x : ℕ). x if eqb (a .wide) 1 else a .out) (c .before .with-faulty .ensures)))

@@ -14,7 +14,9 @@ sources-spec =
     tie.close
     (tie.spec
     (λ c. search needs)
+    -- returns
     (λ c. let a = c .before .args in
     sets (λ (k : ℕ). (a .c + a .f ≡ column k (a .c) (a .f) .sources) × (a .c + a .f ≤ 64)) (refl, omega (arith, c .before .pre .0)) _ (c .if1 .taken))
+    -- returns-2
     (λ c. let st = c .before in let a = st .args in
     (st .pre .1 ∙ sources-are (a .level) (a .c) (a .f) (c .if1 .left), omega (arith, st .pre .1, wide-some (a .level) .1))))

@@ -12,5 +12,7 @@ unfolding wide
 wide-spec =
     tie.close
     (tie.spec
+    -- returns
     (λ c. tags (λ (k : ℕ). (2 ≡ wide k) × (1 ≤ 2) × (2 ≤ 2)) (refl, omega arith, omega arith) _ (c .if1 .taken))
+    -- returns-2
     (λ c. singles (λ (k : ℕ). (1 ≡ wide k) × (1 ≤ 1) × (1 ≤ 2)) (refl, omega arith, omega arith) (λ j. (refl, omega arith, omega arith)) _ (c .if1 .left)))
