@@ -1,9 +1,10 @@
 -- What keeping the rules of a table may count on, and what its loops have kept so far.
 use mathlib.Core.Path.{_≡_}
 use mathlib.Core.List.{List}
-use Prim.Native.Nat.{ℕ, _+_, _<_}
-use lib.ListN.{length}
-use Rattle.table.specs.Table.{rulesOf, typesOf, fromOf, toOf}
+use Prim.Native.Nat.{ℕ, _+_, _*_, _<_}
+use lib.ListN.{length, getD}
+use Rattle.threshold.specs.Threshold.{thresholdIn, leastOf}
+use Rattle.table.specs.Table.{rulesOf, typesOf, fromOf, toOf, coefficientsOf}
 use Rattle.table.specs.Facts.{WellFormed}
 use Rattle.words.specs.declared.Sizes.{Sizes}
 use Rattle.words.specs.Facts.{Bounded}
@@ -27,11 +28,13 @@ pub record EndsTo (T : ℕ) (table ends : List ℕ) (k : ℕ) : Type 0 where
   pub long : length ends ≡ keptRoom
   pub at : (r : ℕ) → r < k → EndsAt T table ends r
 
--- ---- the least counts of the rules below k, and of rule k for the types below j
-abbrev pub LeastAt : Sizes → ℕ → List ℕ → List ℕ → ℕ → ℕ → Type 0
-LeastAt s t table leasts r m = keptLeast leasts r m ≡ leastAt table r m (s .correct + s .faulty) t
-
-pub record LeastsTo (s : Sizes) (t : ℕ) (table leasts : List ℕ) (k j : ℕ) : Type 0 where
+-- ---- the least counts of the rules below k
+pub record LeastsTo (s : Sizes) (t : ℕ) (table leasts : List ℕ) (k : ℕ) : Type 0 where
   pub long : length leasts ≡ keptRoom
-  pub at : (r m : ℕ) → r < k → m < s .types → LeastAt s t table leasts r m
-  pub last : (m : ℕ) → m < j → LeastAt s t table leasts k m
+  pub at : (r m : ℕ) → r < k → m < s .types → keptLeast leasts r m ≡ leastAt table r m (s .correct + s .faulty) t
+
+-- those of rule k for the types below j, by its record, beside what was kept before
+pub record RowTo (s : Sizes) (t : ℕ) (rule old new : List ℕ) (k j : ℕ) : Type 0 where
+  pub long : length new ≡ keptRoom
+  pub before : (i : ℕ) → i < k * 4 → getD new i 0 ≡ getD old i 0
+  pub row : (m : ℕ) → m < j → keptLeast new k m ≡ leastOf (thresholdIn (coefficientsOf rule m) (s .correct + s .faulty) t)

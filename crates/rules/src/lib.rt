@@ -5,11 +5,11 @@ ghost use Prim.Native.Nat.{_+_, _*_, _≤_, _<_};
 ghost use lib.ListN.{length, set};
 ghost use Rattle.senders.specs.Set.{mostTolerated};
 ghost use Rattle.threshold.specs.Threshold.{thresholdIn, leastOf};
-ghost use Rattle.table.specs.Table.{statesOf, fromOf, toOf, endBytes, typeBytes, coefficientsOf};
+ghost use Rattle.table.specs.Table.{fromOf, toOf, ruleOf, endBytes, typeBytes, coefficientsOf};
 ghost use Rattle.words.specs.Facts.{Bounded};
 ghost use Rattle.rules.specs.Design.{sendsOf, designOf};
 ghost use Rattle.rules.specs.Kept.{keptRoom, keptFrom, keptTo, keptSends, keptLeast, Kept};
-ghost use Rattle.rules.specs.Facts.{Suits, EndsTo, LeastsTo};
+ghost use Rattle.rules.specs.Facts.{Suits, RowTo};
 use words::Sizes;
 
 // The bytes, and the numbers, that keep the rules of any table: 64 rules, four each.
@@ -57,35 +57,27 @@ fn as_count(x: u16) -> u64
 }
 
 // ---- reading them
-// Keeps all rules of the table.
+// Keeps all rules of the table, record by record.
 pub fn keep(table: &[u8], t: usize, s: Sizes, ends: &mut [u8], leasts: &mut [u16])
     requires { ⌜ (Suits s (now table)) × (t ≤ mostTolerated) × (length (now ends) ≡ keptRoom) × (length (now leasts) ≡ keptRoom) ⌝ }
     ensures { λ x. ⌜ Kept (designOf s t (now (table .entry))) s (now (ends .exit)) (now (leasts .exit)) ⌝ }
 {
     let states = table::states(table);
-    keep_ends(table, states, s, ends);
-    keep_leasts(table, states, t, s, leasts);
-}
-
-// Their ends and the types that they send.
-fn keep_ends(table: &[u8], states: usize, s: Sizes, ends: &mut [u8])
-    requires { ⌜ (Suits s (now table)) × (states ≡ statesOf (now table)) × (length (now ends) ≡ keptRoom) ⌝ }
-    ensures { λ x. ⌜ EndsTo (s .types) (now (table .entry)) (now (ends .exit)) (s .rules) ⌝ }
-{
     let rules = s.rules;
     let mut r = 0;
     while r < rules {
-        ends_of(table, states, s, ends, r);
+        let rule = table::rule(table, states, s.types, r);
+        keep_ends(table, rule, s, ends, r);
+        keep_leasts(rule, t, s, leasts, r);
         r += 1;
     }
 }
 
-// Those of rule r, read before the first is written.
-fn ends_of(table: &[u8], states: usize, s: Sizes, ends: &mut [u8], r: usize)
-    requires { ⌜ (Suits s (now table)) × (states ≡ statesOf (now table)) × (r < s .rules) × (length (now ends) ≡ keptRoom) ⌝ }
+// The ends of rule r and the type that it sends, read before the first is written.
+fn keep_ends(table: &[u8], rule: &[u8], s: Sizes, ends: &mut [u8], r: usize)
+    requires { ⌜ (Suits s (now table)) × (r < s .rules) × (now rule ≡ ruleOf (now table) r) × (endBytes ≤ length (now rule)) × (length (now ends) ≡ keptRoom) ⌝ }
     ensures { λ x. ⌜ now (ends .exit) ≡ set (set (set (now (ends .entry)) (r * 4) (fromOf (now (table .entry)) r)) (r * 4 + 1) (toOf (now (table .entry)) r)) (r * 4 + 2) (sendsOf (s .types) (now (table .entry)) r) ⌝ }
 {
-    let rule = table::rule(table, states, s.types, r);
     let from = table::leaves(rule);
     let to = table::enters(rule);
     let sends = sent_by(table, s, r, from, to);
@@ -105,26 +97,12 @@ fn sent_by(table: &[u8], s: Sizes, r: usize, from: usize, to: usize) -> usize
     senders::lowest_missing(new, old, s.types as u64) as usize
 }
 
-// For each rule and type, the least count that meets the threshold.
-fn keep_leasts(table: &[u8], states: usize, t: usize, s: Sizes, leasts: &mut [u16])
-    requires { ⌜ (Suits s (now table)) × (states ≡ statesOf (now table)) × (t ≤ mostTolerated) × (length (now leasts) ≡ keptRoom) ⌝ }
-    ensures { λ x. ⌜ LeastsTo s t (now (table .entry)) (now (leasts .exit)) (s .rules) 0 ⌝ }
-{
-    let rules = s.rules;
-    let mut r = 0;
-    while r < rules {
-        leasts_of(table, states, t, s, leasts, r);
-        r += 1;
-    }
-}
-
-// Those of rule r.
-fn leasts_of(table: &[u8], states: usize, t: usize, s: Sizes, leasts: &mut [u16], r: usize)
-    requires { ⌜ (Suits s (now table)) × (states ≡ statesOf (now table)) × (t ≤ mostTolerated) × (r < s .rules) × (LeastsTo s t (now table) (now leasts) r 0) ⌝ }
-    ensures { λ x. ⌜ LeastsTo s t (now (table .entry)) (now (leasts .exit)) r (s .types) ⌝ }
+// For each type, the least count that meets the threshold in the record of rule r.
+fn keep_leasts(rule: &[u8], t: usize, s: Sizes, leasts: &mut [u16], r: usize)
+    requires { ⌜ (Bounded s) × (t ≤ mostTolerated) × (r < s .rules) × (endBytes + typeBytes * s .types ≤ length (now rule)) × (length (now leasts) ≡ keptRoom) ⌝ }
+    ensures { λ x. ⌜ RowTo s t (now (rule .entry)) (now (leasts .entry)) (now (leasts .exit)) r (s .types) ⌝ }
 {
     let types = s.types;
-    let rule = table::rule(table, states, types, r);
     let mut m = 0;
     while m < types {
         leasts[r * 4 + m] = least_in(rule, m, t, s);

@@ -1,38 +1,32 @@
--- Rule by rule, the three are stored beside those of the rules before it, which stay.
-use mathlib.Core.Path.{sym, _∙_}
-use Prim.Native.Nat.{_-_, _≤_}
+-- All three are read of the rule's record and of the table before the first is written, each in a place of its own.
+use Prim.Native.Nat.{_+_, _*_}
 use native.Mathlib.Omega.{arith}
 use borrow.Author.Needs.{needs}
-use Rattle.rules.specs.Facts.{EndsTo}
-use Rattle.rules.proofs.RuleLaws.{ends-none, ends-all, ends-more}
+use lib.ListN.{set, length-set}
+use Rattle.table.proofs.RecordLaws.{leaves-is, enters-is}
 use Rattle.rules.proofs.keep_ends.Statement.{statement}
 use Rattle.rules.proofs.keep_ends.Tie as tie
-
-abbrev Inv-loop : tie.InvT-loop
-Inv-loop table states s ends₀ rules r₀ ends r = (r ≤ rules) × EndsTo (s .types) table ends r
-
-abbrev μ-loop : tie.MeasureT-loop
-μ-loop table states s ends₀ rules r₀ ends r = rules - r
 
 pub keep-ends-spec : {M : Type 1} → statement M
 keep-ends-spec =
     tie.close
     (tie.spec
-    Inv-loop
-    μ-loop
-    -- loop-holds
-    (λ c. let st = c .before .before in
-    (omega arith, ends-none (st .args .s) (st .args .table .now) (st .args .ends .now) (st .pre .2)))
-    -- ends-of-requires
-    (λ c κs. let st = c .before .before .before .before .before in
-    (st .pre .0, st .pre .1, c .before .loop-test .taken, c .before .before .loop .inv .1 .long))
+    (λ c κs. search needs) (λ c κs. search needs)
+    -- sent-by-requires
+    (λ c κs. let st = c .before .before .before .before .before in let a = st .args in
+    (st .pre .0, st .pre .1, leaves-is (a .table .now) (a .r) (st .pre .2) (c .before .leaves .ensures .0), enters-is (a .table .now) (a .r) (st .pre .2) (c .enters .ensures .0)))
+    (λ c. search needs) (λ c. search needs) (λ c. search needs) (λ c. search needs) (λ c. search needs)
+    -- slice-write-ends-2
+    (λ c. let st = c .before .before .before .before .before .before in let a = st .args in
+    omega (arith, length-set (a .ends .now) (a .r * 4) (c .before .before .leaves .result), st .pre .4, st .pre .1, st .pre .0 .bounded .rules))
     (λ c. search needs) (λ c. search needs)
-    -- loop-again
-    (λ c. let in-turn = c .before .before .before .before in let turn = in-turn .before in let st = turn .before .before .before in let a = st .args in
-    (omega (arith, in-turn .loop-test .taken), ends-more (a .s) (a .table .now) (turn .loop .ends) (turn .loop .r) (omega (arith, in-turn .loop-test .taken, st .pre .0 .bounded .rules)) (turn .loop .inv .1) (c .before .before .ends-of .ensures)))
-    -- same-length
-    (λ c. let st = c .before .before .before .before in
-    c .before .loop .inv .1 .long ∙ sym (st .pre .2))
+    -- slice-write-ends-3
+    (λ c. let st = c .before .before .before .before .before .before in let a = st .args in
+    let x = c .before .before .leaves .result in
+    omega (arith, length-set (a .ends .now) (a .r * 4) x, length-set (set (a .ends .now) (a .r * 4) x) (a .r * 4 + 1) (c .before .enters .result), st .pre .4, st .pre .1, st .pre .0 .bounded .rules))
+    (λ c. search needs)
     -- returns
-    (λ c. let a = c .before .before .before .before .args in
-    ends-all (a .s) (a .table .now) (c .before .loop .ends) (c .before .loop .r) (a .s .rules) (c .before .loop .inv .0) (c .loop-test .left) (c .before .loop .inv .1)))
+    (λ c. let st = c .before .before .before .before .before .before in let a = st .args in
+    let x = leaves-is (a .table .now) (a .r) (st .pre .2) (c .before .before .leaves .ensures .0) in
+    let y = enters-is (a .table .now) (a .r) (st .pre .2) (c .before .enters .ensures .0) in
+    rw (x, y, c .sent-by .ensures .0)))
