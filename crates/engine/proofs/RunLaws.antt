@@ -1,17 +1,17 @@
--- The first configuration, word by word, and what the loop over the steps keeps: after i steps the run is the run of what is left, for
+-- The first configuration as it is placed, and what the loop over the steps keeps: after i steps the run is the run of what is left, for
 -- every design that the kept rules stand for, and no word has grown by more than two a step.
-use mathlib.Core.Path.{_≡_, sym, ap, _∙_, subst⁻¹}
-use mathlib.Core.List.{List}
-use Prim.Native.Nat.{ℕ, _+_, _*_, _≤_, _<_}
+use mathlib.Core.Path.{_≡_, refl, sym, ap, ap₂, _∙_, subst⁻¹}
+use mathlib.Core.List.{List, [], _∷_, _++_}
+use Prim.Native.Nat.{ℕ, zero, suc, _+_, _*_, _≤_, _<_}
 use native.Mathlib.Decide.{ℕ-discrete, decLt}
 use native.Mathlib.Omega.{arith}
-use lib.ListN.{length, getD, set, List·getD-eq-default}
-use lib.Seq.{getD-set-same, getD-set-other, ext-getD}
+use lib.ListN.{length, getD, set, take, drop, replicate, length-replicate, replicate-append-replicate}
+use lib.Seq.{getD-set-same, getD-set-other, length-front, length-take-le, drop-at}
 use borrow.Author.Tests.{eq-eqb, ne-eqb}
 use Rattle.fault.specs.declared.Answer.{Answer}
 use Rattle.fault.specs.Fault.{_if_else_}
 use Rattle.paper.specs.Paper.{Design, Step}
-use Rattle.paper.specs.Words.{start}
+use Rattle.paper.specs.Words.{size, start}
 use Rattle.paper.specs.Form.{wide}
 use Rattle.paper.specs.Step.{stepFault, stepped}
 use Rattle.schedule.specs.Records.{stepsIn, recordAt}
@@ -35,26 +35,46 @@ fills w t i r l f e j h = go (ℕ-discrete j i)
     go (yes z) = rw (z, getD-set-same) e
     go (no z) = getD-set-other w i j r 0 z ∙ f j (omega arith)
 
-module _ (s : Sizes) (starts : List ℕ) (l : length starts ≡ s .correct) where
-  -- each word is the start byte, or 0 past them
-  start-at : (i : ℕ) → getD starts i 0 ≡ getD (start (s .types) (wide (s .level)) starts) i 0
-  start-at i = go (decLt i (s .correct))
+-- the starts below i, in front of the words as they were
+module _ (w t : List ℕ) where
+  pub placed-long : (i : ℕ) → i ≤ length t → i ≤ length w → length (take i t ++ drop i w) ≡ length w
+  placed-long i h l = length-front w (take i t) i (length-take-le i t h ∙ sym (length-take-le i w l))
+
+  pub placed-more : {u : List ℕ} (i r : ℕ) → u ≡ take i t ++ drop i w → i < length t → i < length w → r ≡ getD t i 0 → set u i r ≡ take (i + 1) t ++ drop (i + 1) w
+  placed-more {u} i r e h l f =
+      let n : suc i ≡ i + 1 = omega arith in
+      ap₂ (λ (v : List ℕ) (x : ℕ). set v i x) e f ∙ go w t i l h ∙ ap (λ (k : ℕ). take k t ++ drop k w) n
     where
-      go : Dec (i < s .correct) → getD starts i 0 ≡ getD (start (s .types) (wide (s .level)) starts) i 0
-      go (yes h) = sym (start-low (s .correct) (s .types) (wide (s .level)) starts l i h)
-      go (no h) = List·getD-eq-default starts 0 (omega arith) ∙ sym (start-high (s .correct) (s .types) (wide (s .level)) starts l i (omega arith))
+      go : (a b : List ℕ) (j : ℕ) → j < length a → j < length b → set (take j b ++ drop j a) j (getD b j 0) ≡ take (suc j) b ++ drop (suc j) a
+      go [] b j h l = absurd (omega arith)
+      go (x ∷ a) [] j h l = absurd (omega arith)
+      go (x ∷ a) (y ∷ b) zero h l = refl
+      go (x ∷ a) (y ∷ b) (suc j) h l = ap (λ (v : List ℕ). y ∷ v) (go a b j (omega arith) (omega arith))
 
-  module _ (w : List ℕ) (h : length w ≡ roomOf s) (f : (j : ℕ) → j < length w → getD w j 0 ≡ getD starts j 0) where
-    pub filled : w ≡ start (s .types) (wide (s .level)) starts
-    filled = ext-getD 0 w _ (h ∙ sym (length-start (s .correct) (s .types) (wide (s .level)) starts l)) (λ j b. f j b ∙ start-at j)
+module _ (s : Sizes) (starts : List ℕ) (l : length starts ≡ s .correct) where
+  abbrev first : List ℕ
+  first = start (s .types) (wide (s .level)) starts
 
-    -- a start is a byte
-    pub filled-holds : ((i : ℕ) → getD starts i 0 < 256) → Holds s 256 w
-    filled-holds b = record { fits = h; small = λ n i. go i (decLt i (length w)) }
-      where
-        go : (i : ℕ) → Dec (i < length w) → getD w i 0 ≤ 256
-        go i (yes z) = omega (arith, f i z, b i)
-        go i (no z) = let e : getD w i 0 ≡ 0 = List·getD-eq-default w 0 (omega arith) in omega arith
+  pub boards-fit : length starts ≤ roomOf s
+  unfolding size
+  boards-fit = omega (arith, l)
+
+  -- the zeros past the starts are the cells and the sent words
+  pub begun : {v u : List ℕ} (n : ℕ) → n ≡ roomOf s → v ≡ replicate n 0 → u ≡ starts ++ drop (length starts) v → u ≡ first
+  unfolding start size
+  begun n h f g =
+      let C = length starts in
+      let k = C * s .types * wide (s .level) + s .types in
+      let e : n ≡ C + k = rw l (h ∙ omega arith) in
+      g ∙ ap (λ (x : List ℕ). starts ++ x) (ap (drop C) (f ∙ ap (λ (i : ℕ). replicate i 0) e ∙ sym (replicate-append-replicate C k 0)) ∙ drop-at (replicate C 0) (replicate k 0) C (length-replicate C 0))
+
+  -- a start is a byte
+  pub first-holds : ((i : ℕ) → getD starts i 0 < 256) → Holds s 256 first
+  first-holds b = record { fits = length-start (s .correct) (s .types) (wide (s .level)) starts l; small = λ n i. go i (decLt i (s .correct)) }
+    where
+      go : (i : ℕ) → Dec (i < s .correct) → getD first i 0 ≤ 256
+      go i (yes h) = omega (arith, start-low (s .correct) (s .types) (wide (s .level)) starts l i h, b i)
+      go i (no h) = let e = start-high (s .correct) (s .types) (wide (s .level)) starts l i (omega arith) in omega (arith, e)
 
 -- ---- one design: the run so far, from what a step answers and leaves
 module _ (k : ℕ) (d : Design) (w₀ steps : List ℕ) (n : ℕ) (l : length steps ≡ n * 4) where

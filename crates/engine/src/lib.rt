@@ -1,7 +1,8 @@
 // A bundle's run: the one beginning of a call, the first configuration, and the steps one after the other, in lent words.
 ghost use mathlib.Core.Path.{_≡_};
+ghost use mathlib.Core.List.{_++_};
 ghost use Prim.Native.Nat.{_+_, _/_, _≤_, _<_};
-ghost use lib.ListN.{length, getD};
+ghost use lib.ListN.{length, drop, replicate};
 ghost use Rattle.paper.specs.Words.{start};
 ghost use Rattle.paper.specs.Form as forms;
 ghost use Rattle.schedule.specs.Records.{stepsIn, Records};
@@ -126,22 +127,33 @@ pub fn begin(starts: &[u8], s: Sizes, w: &mut [u64])
     ensures { λ r. ⌜ now (w .exit) ≡ start (s .types) (forms.wide (s .level)) (now (starts .entry)) ⌝ }
     ensures { λ r. ⌜ Holds s 256 (now (w .exit)) ⌝ }
 {
+    clear(w);
+    place(starts, w);
+}
+
+// All words 0.
+fn clear(w: &mut [u64])
+    ensures { λ r. ⌜ now (w .exit) ≡ replicate (length (now (w .entry))) 0 ⌝ }
+{
     let room = w.len();
     let mut i = 0;
     while i < room {
-        w[i] = start_word(starts, i);
+        w[i] = 0;
         i += 1;
     }
 }
 
-// The start state of board i; 0 where i is no board.
-fn start_word(starts: &[u8], i: usize) -> u64
-    ensures { λ r. ⌜ (r ≡ getD (now (starts .entry)) i 0) × (r < 256) ⌝ }
+// Each board's start state in its place.
+fn place(starts: &[u8], w: &mut [u64])
+    requires { ⌜ length (now starts) ≤ length (now w) ⌝ }
+    ensures { λ r. ⌜ now (w .exit) ≡ now (starts .entry) ++ drop (length (now (starts .entry))) (now (w .entry)) ⌝ }
 {
-    if i < starts.len() {
-        return fault::byte_at(starts, i) as u64;
+    let boards = starts.len();
+    let mut i = 0;
+    while i < boards {
+        w[i] = fault::byte_at(starts, i) as u64;
+        i += 1;
     }
-    0
 }
 
 // The steps one after the other, up to the first that is refused.

@@ -8,11 +8,11 @@ ghost use Rattle.senders.specs.Tally.{digit};
 ghost use Rattle.fault.specs.Tests.{_atLeast_, _differs_};
 ghost use Rattle.paper.specs.Paper as paper;
 ghost use Rattle.paper.specs.Words.{state};
-ghost use Rattle.paper.specs.Step.{notInTransit, stepFault, stepped};
+ghost use Rattle.paper.specs.Step.{notInTransit, stepFault};
 ghost use Rattle.paper.specs.Step as steps;
 ghost use Rattle.schedule.specs.Records.{meant};
 ghost use Rattle.words.specs.Facts.{atRest, inStep, Bounded, Holds, Grown};
-ghost use Rattle.rules.specs.Kept.{keptRoom, keptFrom, ByEnds, ByDesign};
+ghost use Rattle.rules.specs.Kept.{keptRoom, keptFrom, ByDesign};
 ghost use Rattle.step.specs.Step.{leftBy, sized, metWith, movedBy, keptStepped, keptFault, keptLeft, Formed, Leaves};
 use schedule::Step;
 use words::Sizes;
@@ -142,15 +142,6 @@ fn gain(m: usize, i: usize) -> u64
 }
 
 // ---- the change
-// The step, which is known to be accepted: for every design that the kept ends stand for.
-pub fn apply_step(s: Sizes, ends: &[u8], w: &mut [u64], x: Step)
-    requires { ⌜ (Bounded s) × (length (now ends) ≡ keptRoom) × (Formed s (meant x)) × (Holds s atRest (now w)) ⌝ }
-    ensures { λ r. ⌜ ByEnds s (now (ends .entry)) (λ d. now (w .exit) ≡ stepped (s .level) d (now (w .entry)) (meant x)) ⌝ }
-    ensures { λ r. ⌜ Grown s (now (w .entry)) (now (w .exit)) ⌝ }
-{
-    change(s, ends, w, x);
-}
-
 // A receipt, and a move with perhaps a send.
 fn change(s: Sizes, ends: &[u8], w: &mut [u64], x: Step)
     requires { ⌜ (Bounded s) × (length (now ends) ≡ keptRoom) × (Formed s (meant x)) × (Holds s atRest (now w)) ⌝ }
@@ -172,7 +163,7 @@ fn receive(s: Sizes, w: &mut [u64], x: Step)
 }
 
 // Board p enters the state that rule r leads to, and sends the rule's type, if any.
-fn move_on(s: Sizes, ends: &[u8], w: &mut [u64], p: usize, r: usize)
+pub fn move_on(s: Sizes, ends: &[u8], w: &mut [u64], p: usize, r: usize)
     requires { ⌜ (Bounded s) × (length (now ends) ≡ keptRoom) × (p < s .correct) × (r < s .rules) × (Holds s inStep (now w)) ⌝ }
     ensures { λ x. ⌜ now (w .exit) ≡ movedBy s (now (ends .entry)) p r (now (w .entry)) ⌝ }
 {

@@ -1,31 +1,34 @@
 -- A step at the neighbouring level, told by the numbers that the code has in hand.
-use mathlib.Core.Path.{_≡_, refl, sym, ap, ap₂, _∙_}
+use mathlib.Core.Path.{_≡_, refl, sym, ap, ap₂, _∙_, subst}
 use mathlib.Core.Bool.{Bool, true, false, not, _&&_, and-false}
 use mathlib.Core.List.{List}
-use Prim.Native.Nat.{ℕ, zero, suc, _+_, _≤_, _<_}
+use Prim.Native.Nat.{ℕ, zero, suc, _+_, _*_, _≤_, _<_}
 use native.Mathlib.Omega.{arith}
 use native.Mathlib.Decide.{decLt}
 use lib.Dec.{eqb, ltb, leb}
-use lib.ListN.{getD}
+use lib.ListN.{getD, set}
+use lib.Seq.{set-getD}
 use borrow.Author.Tests.{lt-ltb, le-ltb, le-leb, lt-leb, eq-eqb, ne-eqb, eqb-true}
 use Rattle.senders.specs.Tally.{least}
 use Rattle.senders.specs.Set.{mem, missing}
 use Rattle.senders.proofs.TallyLaws.{and-both, least-same, least-le, least-found}
 use Rattle.fault.specs.Fault.{_if_else_}
 use Rattle.paper.specs.Paper.{Design, Step, passing, silent, column}
-use Rattle.paper.specs.Words.{cellAt, sentAt, cell, sent}
-use Rattle.paper.specs.Form.{wide, coll, shown}
-use Rattle.paper.specs.Step.{malformed}
-use Rattle.paper.proofs.StepLaws.{kind-if, named-of}
+use Rattle.paper.specs.Words.{cellAt, sentAt, cell, sent, hear}
+use Rattle.paper.specs.Form.{wide, slot, bump, coll, shown}
+use Rattle.paper.specs.Step.{heard, malformed}
+use Rattle.paper.proofs.StepLaws.{kind-if, named-of, heard-silent, heard-message}
 use Rattle.agree.specs.Translation.{sourceIn, tagOf, withSource, tagBy, lowSender, lowest}
 use Rattle.agree.proofs.Columns.{tag-correct, tag-faulty, tag-only, transit-correct, transit-faulty, picture-laws}
-use Rattle.agree.proofs.Agree.{lowest-message}
+use Rattle.agree.proofs.Agree.{typed, lowest-silent, lowest-message}
+use Rattle.schedule.specs.Records.{recordAt}
 use Rattle.words.specs.declared.Sizes.{Sizes}
 use Rattle.words.specs.Words.{columnIn, transitIn}
-use Rattle.words.specs.Facts.{Bounded, At}
+use Rattle.words.specs.Facts.{Bounded, At, Sourced}
 use Rattle.words.proofs.LevelCases.{counts}
 use Rattle.rules.specs.Kept.{Numbers}
-use Rattle.step.specs.Step.{sized, Formed}
+use Rattle.step.specs.Step.{sized, movedBy, keptStepped, Formed}
+use Rattle.step.proofs.StepLaws.{names-source}
 use Rattle.step.proofs.KeptLaws.{numbered-is}
 use Rattle.translate.specs.Facts.{lowIn}
 
@@ -38,10 +41,6 @@ module _ (j : ℕ) where
   pub tag-keeps : (c : ℕ) (s : Step) → withSource s (tagBy j c s .source) ≡ tagBy j c s
   unfolding tagBy
   tag-keeps c s = refl
-
-  pub low-source : (d : Design) (w : List ℕ) (s : Step) → lowest j d w s .source ≡ (s .source if silent s else lowSender j d w s)
-  unfolding lowest
-  low-source d w s = kind-if (λ κ. sourceIn κ (s .source) (lowSender j d w s)) s
 
   pub low-keeps : (d : Design) (w : List ℕ) (s : Step) → withSource s (lowest j d w s .source) ≡ lowest j d w s
   unfolding lowest
@@ -139,18 +138,45 @@ source-what s w x B F e =
     (record { board = F .board; type = N .type }, omega (arith, t, picture-laws (s .correct) (s .faulty) (s .level) .below (least n P)))
 
 -- ---- the source that the code finds
-module _ (s : Sizes) (w : List ℕ) (x : Step) where
-  pub source-silent : silent x ≡ true → x .source ≡ lowIn s w x .source
-  unfolding _if_else_
-  source-silent e = sym (low-source (s .level) (sized s) w x ∙ rw e)
+pub source-found : {r : ℕ} (s : Sizes) (w : List ℕ) (x : Step) → r ≡ lowestIn s w (x .board) (x .type) (x .source) → r ≡ lowSender (s .level) (sized s) w x
+unfolding lowSender
+source-found s w x e = e
 
-  pub source-found : {r : ℕ} → silent x ≡ false → r ≡ lowestIn s w (x .board) (x .type) (x .source) → r ≡ lowIn s w x .source
-  unfolding _if_else_ lowSender
-  source-found e f = f ∙ sym (low-source (s .level) (sized s) w x ∙ rw e)
+-- ---- `hear_lowest`
+-- without a message neither the words nor the record change
+module _ (s : Sizes) (w : List ℕ) (x : Step) (e : silent x ≡ true) where
+  pub low-unheard : w ≡ heard (s .level) (sized s) w (lowIn s w x)
+  low-unheard = sym (ap (heard (s .level) (sized s) w) (lowest-silent (s .level) (sized s) x w e) ∙ heard-silent (s .level) (sized s) w x e)
 
--- the step with that source
-pub source-step : {q : ℕ} {y : Step} (s : Sizes) (w : List ℕ) (x : Step) → y ≡ x → q ≡ lowIn s w y .source → withSource y q ≡ lowIn s w x
-source-step {q} {y} s w x e f = ap (withSource y) f ∙ low-keeps (s .level) (sized s) w y ∙ ap (lowIn s w) e
+  pub low-unnamed : (steps : List ℕ) (i : ℕ) → x ≡ recordAt steps i → steps ≡ set steps (i * 4 + 3) (lowIn s w x .source)
+  low-unnamed steps i f = sym (ap (λ (y : Step). set steps (i * 4 + 3) (y .source)) (lowest-silent (s .level) (sized s) x w e ∙ f) ∙ set-getD steps (i * 4 + 3) 0)
+
+-- with one it is the lowest sender's
+module _ {q : ℕ} (s : Sizes) (w : List ℕ) (x : Step) (B : Bounded s) (F : Formed s (lowIn s w x)) (e : silent x ≡ false) (f : q ≡ lowSender (s .level) (sized s) w x) where
+  low-is : lowIn s w x ≡ withSource x q
+  low-is = lowest-message (s .level) (sized s) x w e ∙ ap (withSource x) (sym f)
+
+  told : silent (withSource x q) ≡ false
+  told = typed (s .types) x q (omega (arith, B .types)) (source-what s w x B F e .0 .type)
+
+  pub low-sourced : Sourced s q
+  low-sourced = names-source s (withSource x q) (subst (Formed s) low-is F) refl told
+
+  pub low-heard : {v : List ℕ} → v ≡ hear (s .correct) (s .types) (wide (s .level)) (x .board) (x .type) (slot (s .level) q) (bump (s .level) q) w → v ≡ heard (s .level) (sized s) w (lowIn s w x)
+  low-heard g = g ∙ sym (ap (heard (s .level) (sized s) w) low-is ∙ heard-message (s .level) (sized s) w (withSource x q) told)
+
+  pub low-named : q ≡ lowIn s w x .source
+  low-named = ap (λ (y : Step). y .source) (sym low-is)
+
+-- ---- `source_at`: the step with its lowest source, by the board and the rule that the code has in hand
+abbrev pub lowered : Sizes → List ℕ → Step → Step
+lowered s w x = withSource x (lowIn s w x .source)
+
+pub lowered-is : {y : Step} (s : Sizes) (w : List ℕ) (x : Step) → y ≡ x → lowered s w y ≡ lowIn s w x
+lowered-is {y} s w x e = low-keeps (s .level) (sized s) w y ∙ ap (lowIn s w) e
+
+pub lowered-moves : {v u : List ℕ} (s : Sizes) (ends w : List ℕ) (x : Step) → v ≡ heard (s .level) (sized s) w (lowIn s w x) → u ≡ movedBy s ends (x .board) (x .rule) v → u ≡ keptStepped s ends w (lowered s w x)
+lowered-moves s ends w x e f = f ∙ ap (movedBy s ends (x .board) (x .rule)) (e ∙ ap (heard (s .level) (sized s) w) (sym (lowered-is s w x refl)))
 
 -- a design's numbers are all that the lowest source asks
 pub low-sized : (d : Design) (s : Sizes) → Numbers d s → (w : List ℕ) (x : Step) → lowest (s .level) d w x ≡ lowIn s w x

@@ -1,6 +1,6 @@
 // Translation: a bundle with its schedule in another form, for every bundle, standing table, form and lent slice.
 ghost use mathlib.Core.Path.{_≡_};
-ghost use mathlib.Core.Bool.{false, _&&_};
+ghost use mathlib.Core.Bool.{_&&_};
 ghost use mathlib.Core.List.{map};
 ghost use Prim.Native.Nat.{suc, _+_, _-_, _*_, _≤_, _<_};
 ghost use lib.Dec.{eqb};
@@ -8,14 +8,13 @@ ghost use lib.ListN.{length, set};
 ghost use Rattle.senders.specs.Tally.{least};
 ghost use Rattle.bundle.specs.Bundle.{stepsOf};
 ghost use Rattle.paper.specs.Paper.{passing, column};
-ghost use Rattle.paper.specs.Paper as paper;
-ghost use Rattle.paper.specs.Step.{stepped};
-ghost use Rattle.agree.specs.Translation.{tagOf, tagBy, coarser};
+ghost use Rattle.paper.specs.Step.{heard, stepped};
+ghost use Rattle.agree.specs.Translation.{tagOf, tagBy, lowSender, coarser};
 ghost use Rattle.schedule.specs.Records.{meant, recordAt, stepsIn, bytesOf, Records};
 ghost use Rattle.words.specs.Words.{roomOf};
 ghost use Rattle.words.specs.Facts.{atRest, inStep, mostWords, Bounded, Holds, At, Grown};
 ghost use Rattle.rules.specs.Kept.{keptRoom, ByEnds, ByDesign};
-ghost use Rattle.step.specs.Step.{Formed};
+ghost use Rattle.step.specs.Step.{sized, Formed};
 ghost use Rattle.engine.specs.Entry.{startIn, ranAnswer};
 ghost use Rattle.engine.specs.Open.{Parts};
 ghost use Rattle.translate.specs.Facts.{atLevel, lowIn, ranBy, Fair, Runs, MovesTo, RefinesTo, WritesTo, Answers, RunsLow, LowersTo};
@@ -297,29 +296,29 @@ fn source_at(s: Sizes, ends: &[u8], w: &mut [u64], steps: &mut [u8], i: usize)
     ensures { λ r. ⌜ now (steps .exit) ≡ set (now (steps .entry)) (i * 4 + 3) (lowIn s (now (w .entry)) (recordAt (now (steps .entry)) i) .source) ⌝ }
 {
     let x = schedule::step_at(steps, i);
+    hear_lowest(s, w, steps, i, x);
+    step::move_on(s, ends, w, x.board, x.rule);
+}
+
+// A message of the step's tag is received from its lowest sender in transit, whom record i then names.
+fn hear_lowest(s: Sizes, w: &mut [u64], steps: &mut [u8], i: usize, x: Step)
+    requires { ⌜ (Bounded s) × (Holds s inStep (now w)) × (i < 4096) × (i * 4 + 3 < length (now steps)) × (meant x ≡ recordAt (now steps) i) × (Formed s (lowIn s (now w) (meant x))) ⌝ }
+    ensures { λ r. ⌜ now (w .exit) ≡ heard (s .level) (sized s) (now (w .entry)) (lowIn s (now (w .entry)) (meant x)) ⌝ }
+    ensures { λ r. ⌜ now (steps .exit) ≡ set (now (steps .entry)) (i * 4 + 3) (lowIn s (now (w .entry)) (meant x) .source) ⌝ }
+{
+    if schedule::silent(x) {
+        return;
+    }
     let q = source(s, w, x);
-    step::apply_step(
-        s,
-        ends,
-        w,
-        Step {
-            board: x.board,
-            rule: x.rule,
-            mtype: x.mtype,
-            source: q,
-        },
-    );
+    words::hear(s, w, x.board, x.mtype, q);
     schedule::set_source(steps, i, q);
 }
 
-// The source of a step: the lowest of its tag that is in transit, or 255 where there is no message.
+// The source of a step with a message: the lowest of its tag that is in transit.
 fn source(s: Sizes, w: &[u64], x: Step) -> usize
-    requires { ⌜ (Bounded s) × (Holds s inStep (now w)) × (x .source < 256) × (paper.silent (meant x) ≡ false → (At s (x .board) (x .mtype)) × (x .source < column (suc (s .level)) (s .correct) (s .faulty) .sources)) ⌝ }
-    ensures { λ r. ⌜ (r ≡ lowIn s (now (w .entry)) (meant x) .source) × (r < 256) ⌝ }
+    requires { ⌜ (Bounded s) × (Holds s inStep (now w)) × (At s (x .board) (x .mtype)) × (x .source < column (suc (s .level)) (s .correct) (s .faulty) .sources) ⌝ }
+    ensures { λ r. ⌜ (r ≡ lowSender (s .level) (sized s) (now (w .entry)) (meant x)) × (r < 256) ⌝ }
 {
-    if schedule::silent(x) {
-        return x.source;
-    }
     if s.level != 0 {
         return words::first_source(s, w, x.board, x.mtype);
     }
