@@ -18,7 +18,7 @@ use Rattle.paper.proofs.FormLaws.{coll-inj, shown-inj, coll-init, shown-init}
 use Rattle.paper.proofs.MachineLaws.{follow, follow-trip, follow-map}
 use Rattle.agree.specs.Translation.{tagBy, tagged, lowest, lowAll, coarser, finer, moved}
 use Rattle.agree.specs.Picture.{Remembers, pictureOf, Sound, Pictured}
-use Rattle.agree.specs.Agreement.{OnePicture, RunThere, RunBack, InAllForms}
+use Rattle.agree.specs.Agreement.{OnePicture, RunThere, RunBack, InAllForms, Agreement}
 use Rattle.agree.proofs.Columns.{picture-laws}
 use Rattle.agree.proofs.Sound.{start-sound}
 use Rattle.agree.proofs.Agree.{forward, backward}
@@ -179,3 +179,14 @@ module _ (d : Design) (K : Remembers d) (begin : ℕ → List ℕ) (B : (j : ℕ
     pictured = pictured-all;
     back = back;
   }
+
+-- ---- all of it
+pub agreement : Agreement
+agreement = record {
+  forward = forward;
+  backward = backward;
+  forward-run = λ j d K w v X ss h. forward-run j d K w v ss X h;
+  backward-run = λ j d K w v X ss h. backward-run j d K w v ss X h;
+  all-forms = all-forms;
+  one-picture = one-picture;
+}

@@ -7,7 +7,7 @@ use Rattle.paper.specs.Paper.{Design, Step}
 use Rattle.paper.specs.Step.{stepFault, stepped}
 use Rattle.paper.specs.Run.{run, after}
 use Rattle.agree.specs.Translation.{tagged, lowest, lowAll, moved}
-use Rattle.agree.specs.Picture.{Pictured}
+use Rattle.agree.specs.Picture.{Remembers, Pictured}
 
 -- ---- the picture: words have one only
 abbrev pub OnePicture : ℕ → Design → Type 0
@@ -46,3 +46,16 @@ pub record InAllForms (d : Design) (begin : ℕ → List ℕ) (k : ℕ) (ss : Li
   pub pictured : (i n : ℕ) → Pictured i d (after i d (begin i) (moved k i d begin ss) n) (after (suc i) d (begin (suc i)) (moved k (suc i) d begin ss) n)
   -- to a finer level and back: the same steps
   pub back : (i : ℕ) → i ≤ k → moved i k d begin (moved k i d begin ss) ≡ ss
+
+-- ---- all of it, for every design whose rules forget nothing that was sent
+pub record Agreement : Type 0 where
+  -- the paper's Theorem 3.4, one way and back, for a step
+  pub forward : (j : ℕ) (d : Design) → Remembers d → (w v : List ℕ) → Pictured j d w v → (s : Step) → stepFault j d w s ≡ 0 → StepThere j d w v s
+  pub backward : (j : ℕ) (d : Design) → Remembers d → (w v : List ℕ) → Pictured j d w v → (s : Step) → stepFault (suc j) d v s ≡ 0 → StepBack j d w v s
+  -- and for a schedule
+  pub forward-run : (j : ℕ) (d : Design) → Remembers d → (w v : List ℕ) → Pictured j d w v → (ss : List Step) → run j d w ss .refusal ≡ 0 → RunThere j d w v ss
+  pub backward-run : (j : ℕ) (d : Design) → Remembers d → (w v : List ℕ) → Pictured j d w v → (ss : List Step) → run (suc j) d v ss .refusal ≡ 0 → RunBack j d w v ss
+  -- from beginnings that are pictured, a schedule of one level runs at all
+  pub all-forms : (d : Design) → Remembers d → (begin : ℕ → List ℕ) → ((j : ℕ) → Pictured j d (begin j) (begin (suc j)))
+      → (k : ℕ) (ss : List Step) → run k d (begin k) ss .refusal ≡ 0 → InAllForms d begin k ss
+  pub one-picture : (j : ℕ) (d : Design) → OnePicture j d

@@ -53,6 +53,7 @@ module _ (k : ℕ) (d : Design) where
   unfolding runBy
   run-is [] w l = record {
     each = λ i h. absurd (not-suc-le-zero h);
+    related = λ i h. absurd (not-suc-le-zero h);
     left = refl;
     whole = λ z. refl;
     next = λ n. absurd (n refl);
@@ -64,6 +65,7 @@ module _ (k : ℕ) (d : Design) where
       go : Dec (stepFault k d w s ≡ 0) → RunMoves k d (stepped k d w s) ss (run k d (stepped k d w s) ss) → RunMoves k d w (s ∷ ss) (run k d w (s ∷ ss))
       go (yes z) R = subst⁻¹ (RunMoves k d w (s ∷ ss)) (run-goes k d w s ss z) (record {
         each = at;
+        related = λ i h. (stepAt (s ∷ ss) i, at i h);
         left = R .left ∙ sym (after-goes k d w s ss z (run k d (stepped k d w s) ss .accepted));
         whole = λ y. ap suc (R .whole y);
         next = λ n. suc-le-suc (R .next n);
@@ -78,6 +80,7 @@ module _ (k : ℕ) (d : Design) where
               (subst⁻¹ (λ (u : List ℕ). Moves d (columnOf k d) (stepAt ss i) (view k d (after k d (stepped k d w s) ss i)) (view k d u)) (after-goes k d w s ss z (suc i)) (R .each i (le-of-suc-le-suc h)))
       go (no n) R = subst⁻¹ (RunMoves k d w (s ∷ ss)) (run-stops k d w s ss n) (record {
         each = λ i h. absurd (not-suc-le-zero h);
+        related = λ i h. absurd (not-suc-le-zero h);
         left = refl;
         whole = λ z. absurd (n z);
         next = λ y. zero-lt-suc (length ss);

@@ -2,7 +2,7 @@
 use mathlib.Core.Path.{_≡_, refl, sym, ap, _∙_, subst, subst⁻¹}
 use mathlib.Core.Bool.{Bool, true, false, not, true≢false}
 use mathlib.Core.List.{List, _++_}
-use Prim.Native.Nat.{ℕ, zero, suc, _+_, _-_, _≤_, _<_}
+use Prim.Native.Nat.{ℕ, zero, suc, _-_, _*_, _≤_, _<_}
 use native.Mathlib.Decide.{ℕ-discrete, decLt}
 use native.Mathlib.Omega.{arith}
 use lib.Dec.{eqb}
@@ -16,12 +16,12 @@ use Rattle.fault.specs.Fault.{refused, nothingDone, _if_else_}
 use Rattle.fault.proofs.FaultLaws.{if-yes, if-no, if-keeps}
 use Rattle.fault.proofs.TestLaws.{same}
 use Rattle.table.specs.Table.{typesOf, rulesOf}
-use Rattle.bundle.specs.Bundle.{formOf, tableInUse, levelOf}
+use Rattle.bundle.specs.Bundle.{nOf, fOf, formOf, correctOf, tableInUse, levelOf}
 use Rattle.bundle.specs.Refusals.{readFault}
 use Rattle.bundle.specs.Facts.{Read}
 use Rattle.bundle.proofs.BundleLaws.{read-by, read-within, level-same}
 use Rattle.paper.specs.Paper.{Design, Step}
-use Rattle.paper.specs.Words.{size, start}
+use Rattle.paper.specs.Words.{start, state}
 use Rattle.paper.specs.Form.{wide}
 use Rattle.paper.specs.Step.{columnOf}
 use Rattle.paper.specs.Run.{Ran, run, after}
@@ -31,12 +31,11 @@ use Rattle.agree.specs.Agreement.{InAllForms}
 use Rattle.agree.proofs.Columns.{picture-laws}
 use Rattle.agree.proofs.Runs.{all-forms}
 use Rattle.rules.specs.Design.{designOf}
-use Rattle.words.specs.Words.{roomOf}
+use Rattle.words.specs.declared.Sizes.{Sizes}
+use Rattle.words.specs.Words.{fromCorrect, fromFaulty, correctIn, faultyIn, sentCountIn}
 use Rattle.engine.specs.Design.{sizesIn, designIn}
 use Rattle.engine.specs.Entry.{scheduleOf, ranWith, ranOf, ranAnswer, runAnswer, startIn}
 use Rattle.engine.proofs.BoundLaws.{ran-within}
-use Rattle.words.proofs.PlaceLaws.{rows-few, rows-are}
-use Rattle.engine.proofs.EntryLaws.{suits}
 use Rattle.translate.specs.Written.{rewritten, beginOf, translationWith}
 use Rattle.translate.specs.Entry.{translationOf, noOther, wrote, translateToAnswer, translateToBytes, usual, translateAnswer}
 use Rattle.translate.proofs.ReadLaws.{kept, begins}
@@ -46,7 +45,9 @@ use Rattle.translate.proofs.EntryLaws.{other-known, other-made, done-refused, e
 use Rattle.paper.specs.Order.{Found, none, found, first}
 use Rattle.first_step.specs.Entry.{answerOf, afterRun, firstAnswer}
 use Rattle.claims.specs.FirstStep.{FirstAgreed}
-use Rattle.claims.specs.Demand3.{Runs, afterIn, Alike, Translated, taggedFound, lowestFound, Neighbours, Refuses, Demand3}
+use Rattle.claims.specs.Demand1.{Runs, afterIn}
+use Rattle.claims.specs.Demand3.{correctAfter, faultyAfter, sentAfter, Alike, Translated, SideBySide, taggedFound, lowestFound, Neighbours, Refuses, Demand3}
+use Rattle.claims.proofs.Demand1.{run-unread, run-read, runs-by, runs-all}
 use Rattle.claims.proofs.FirstAgreed.{first-agreed}
 use Rattle.words.specs.Facts.{mostWords}
 
@@ -90,6 +91,30 @@ module _ (d : Design) where
       go : (x : Found) → first (suc j) d v ≡ x → first j d w ≡ lowestFound j d w x
       go none e = F .none-back e
       go (found s) e = F .back s e
+
+-- ---- the usual form is another one
+usual-other : (b : List ℕ) → noOther b (usual b) ≡ false
+unfolding usual _if_else_
+usual-other b = go (ℕ-discrete (formOf b) 1)
+  where
+    go : Dec (formOf b ≡ 1) → noOther b (usual b) ≡ false
+    go (yes e) = rw (eq-eqb (formOf b) 1 e) (other-made b 0 (λ z. absurd (omega (arith, e, z))) (omega arith))
+    go (no n) = rw (ne-eqb (formOf b) 1 n) (other-made b 1 (λ z. n (sym z)) (omega arith))
+
+-- ---- equal states and counts of bundles x and y after every number of steps
+record Equal (standing : List ℕ) (C T : ℕ) (x y : List ℕ) : Type 0 where
+  states : (i p : ℕ) → p < C → state (afterIn x standing i) p ≡ state (afterIn y standing i) p
+  corrects : (i p m : ℕ) → p < C → m < T → correctAfter x standing i p m ≡ correctAfter y standing i p m
+  faulties : (i p m : ℕ) → p < C → m < T → faultyAfter x standing i p m ≡ faultyAfter y standing i p m
+  sents : (i m : ℕ) → m < T → sentAfter x standing i m ≡ sentAfter y standing i m
+
+equal-turned : {standing x y : List ℕ} {C T : ℕ} → Equal standing C T x y → Equal standing C T y x
+equal-turned E = record {
+  states = λ i p h. sym (E .states i p h);
+  corrects = λ i p m hp hm. sym (E .corrects i p m hp hm);
+  faulties = λ i p m hp hm. sym (E .faulties i p m hp hm);
+  sents = λ i m h. sym (E .sents i m h);
+}
 
 -- ---- a bundle that runs
 module _ (b standing : List ℕ) (S : Runs b standing) where
@@ -261,37 +286,59 @@ module _ (b standing : List ℕ) (S : Runs b standing) where
       first-back = first-at j (omega arith) ∙ ap answerOf (first-lowest d j _ _ firsts);
     }
 
--- ---- refusals
--- mostWords words are enough
-room-few : (b standing : List ℕ) (lent : ℕ) → readFault b standing .number ≡ 0 → mostWords ≤ lent → roomOf (sizesIn b standing) ≤ lent
-unfolding size
-room-few b standing lent z l =
-    let s = sizesIn b standing in
-    let B = suits (tableInUse b standing) b (read-by b standing refl z refl) refl .bounded in
-    omega (arith, rows-few s B, rows-are s B, B .boards, B .types)
+  -- ---- side by side, in message and counting form
+  -- the numbers of the bundle in form k
+  abbrev numbers : ℕ → ℕ → ℕ → List ℕ → Sizes
+  numbers l n f table = record { level = l; correct = n - f; faulty = f; types = typesOf table; rules = rulesOf table; wide = wide l; row = typesOf table * wide l }
 
-module _ (b standing : List ℕ) (lent : ℕ) (l : mostWords ≤ lent) where
-  -- what `run` answers where it refuses at reading, and else
-  run-unread : (readFault b standing .number ≡ 0 → ⊥) → runAnswer b standing lent ≡ nothingDone (readFault b standing)
-  unfolding runAnswer
-  run-unread n = sym (if-yes _ refl refl (ap not (ne-eqb _ 0 n)))
+  abbrev sizes : ℕ → Sizes
+  sizes k = numbers k (nOf b) (fOf b) t
 
-  run-read : readFault b standing .number ≡ 0 → runAnswer b standing lent ≡ ranAnswer (ranOf b standing)
-  unfolding runAnswer
-  run-read z = sym (if-no _ refl (ap not (eq-eqb _ 0 z)) (if-no _ refl (le-ltb lent (roomOf (sizesIn b standing)) (room-few b standing lent z l)) refl))
+  sizes-at : (k : ℕ) → k ≤ 2 → sizesIn (form k) standing ≡ sizes k
+  sizes-at k h =
+      let e : levelOf (formOf (form k)) ≡ k = level-c k ∙ level-same k h in
+      let l = levelOf k in
+      λ i. numbers (e i) (same-n t b R (new l) k (many k) i) (same-f t b R (new l) k (many k) i) (same-table t b R (new l) k (many k) standing i)
 
-  runs-by : runAnswer b standing lent .refusal ≡ 0 → Runs b standing
-  unfolding ranAnswer
-  runs-by h = go (ℕ-discrete (readFault b standing .number) 0)
+  abbrev Two : Type 0
+  Two = columnOf 1 d .Coll
+
+  abbrev W : ℕ → ℕ → List ℕ
+  W k i = afterIn (form k) standing i
+
+  -- by the picture the two counts are those of the set
+  both : Equal standing (correctOf b) (typesOf t) (form 0) (form 1)
+  unfolding fromCorrect fromFaulty
+  both =
+      let P : (i : ℕ) → Pictured 0 d (W 0 i) (W 1 i) = pictured-in 0 (omega arith) in
+      let S₀ = sizes-at 0 (omega arith) in
+      let S₁ = sizes-at 1 (omega arith) in
+      record {
+        states = λ i p h. sym (P i .states p h);
+        corrects = λ i p m hp hm. ap (λ (s : Sizes). correctIn s (W 0 i) p m) (S₀) ∙ sym (ap (λ (c : Two). c .correct) (P i .rcvds p m hp hm)) ∙ sym (ap (λ (s : Sizes). correctIn s (W 1 i) p m) S₁);
+        faulties = λ i p m hp hm. ap (λ (s : Sizes). faultyIn s (W 0 i) p m) (S₀) ∙ sym (ap (λ (c : Two). c .faulty) (P i .rcvds p m hp hm)) ∙ sym (ap (λ (s : Sizes). faultyIn s (W 1 i) p m) S₁);
+        sents = λ i m h. ap (λ (s : Sizes). sentCountIn s (W 0 i) m) (S₀) ∙ sym (ap (λ (c : Two). c .correct) (P i .sents m h)) ∙ sym (ap (λ (s : Sizes). sentCountIn s (W 1 i) m) S₁);
+      }
+
+  side : formOf b ≤ 1 → SideBySide b standing (translationOf b standing (usual b))
+  unfolding translationWith usual _if_else_
+  side h = go (ℕ-discrete (formOf b) 1)
     where
-      go : Dec (readFault b standing .number ≡ 0) → Runs b standing
-      go (no n) = absurd (n (sym (ap (λ (a : Answer). a .refusal) (run-unread n)) ∙ h))
-      go (yes z) = record { read = z; accepted = sym (ap (λ (a : Answer). a .refusal) (run-read z)) ∙ h }
+      made : (k : ℕ) → usual b ≡ k → Equal standing (correctOf b) (typesOf t) b (translationOf b standing k) → SideBySide b standing (translationOf b standing (usual b))
+      made k e E =
+          let T = translated (usual b) (usual-other b) in
+          let F = subst⁻¹ (λ (x : ℕ). Equal standing (correctOf b) (typesOf t) b (translationOf b standing x)) e E in
+          record { answered = T .answered; written = T .written; runs = T .runs; states = F .states; corrects = F .corrects; faulties = F .faulties; sents = F .sents }
 
-  runs-all : Runs b standing → runAnswer b standing lent .refusal ≡ 0
-  unfolding ranAnswer
-  runs-all S = ap (λ (a : Answer). a .refusal) (run-read (S .read)) ∙ S .accepted
+      -- the bundle in its own form
+      itself : (k : ℕ) → formOf b ≡ k → translationOf b standing k ≡ b
+      itself k e = ap (translationOf b standing) (sym e) ∙ own
 
+      go : Dec (formOf b ≡ 1) → SideBySide b standing (translationOf b standing (usual b))
+      go (yes e) = made 0 (rw (eq-eqb (formOf b) 1 e) refl) (subst (λ (x : List ℕ). Equal standing (correctOf b) (typesOf t) x (translationOf b standing 0)) (itself 1 e) (equal-turned both))
+      go (no n) = made 1 (rw (ne-eqb (formOf b) 1 n) refl) (subst (λ (x : List ℕ). Equal standing (correctOf b) (typesOf t) x (translationOf b standing 1)) (itself 0 (omega arith)) both)
+
+-- ---- refusals
 -- what translation answers and leaves where it refuses: at reading, for want of another form, for want of room, at a step
 module _ (b standing : List ℕ) (k : ℕ) (out : List ℕ) where
   abbrev Refused : Answer → Type 0
@@ -335,15 +382,6 @@ module _ (b standing : List ℕ) (k : ℕ) (out : List ℕ) where
       go (yes z) false e (no l) (no n) = nothing (stopped z e (omega arith) n)
       go (yes z) false e (no l) (yes y) = absurd (r (ap (λ (a : Answer). a .refusal) (translated b standing (record { read = z; accepted = y }) k e .answered (length out) (omega arith))))
 
--- ---- the usual form is another one
-usual-other : (b : List ℕ) → noOther b (usual b) ≡ false
-unfolding usual _if_else_
-usual-other b = go (ℕ-discrete (formOf b) 1)
-  where
-    go : Dec (formOf b ≡ 1) → noOther b (usual b) ≡ false
-    go (yes e) = rw (eq-eqb (formOf b) 1 e) (other-made b 0 (λ z. absurd (omega (arith, e, z))) (omega arith))
-    go (no n) = rw (ne-eqb (formOf b) 1 n) (other-made b 1 (λ z. n (sym z)) (omega arith))
-
 -- a refusal other than 31
 abbrev Other : Answer → Type 0
 Other a = a .refusal ≡ 31 → ⊥
@@ -360,6 +398,7 @@ never-31 b standing lent =
 pub demand3 : Demand3
 demand3 = record {
   translated = λ b standing k S o. translated b standing S k o;
+  side-by-side = side;
   own = own;
   neighbours = λ b standing j S l. neighbours b standing S j l;
   runs = runs-by;

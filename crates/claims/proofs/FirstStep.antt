@@ -20,7 +20,7 @@ use Rattle.claims.specs.FirstStep.{EarlierMessage, noMessage, lowerType,
 pub clash : {A : Type 0} (s : Step) → none ≡ found s → A
 clash s e = let z : _≡_ {A = ℕ} 0 1 = cc in absurd (omega arith)
 
-same-found : (s t : Step) → found s ≡ found t → s ≡ t
+pub same-found : (s t : Step) → found s ≡ found t → s ≡ t
 same-found s t e = cc
 
 -- ---- searches

@@ -1,8 +1,10 @@
 pub mod Figures
 pub mod Demand2
+pub mod Demand1
 pub mod Agreed
 pub mod Plain
 pub mod FirstStep
+pub mod FirstCall
 pub mod FirstAgreed
 pub mod Demand3
 pub mod OneEcho

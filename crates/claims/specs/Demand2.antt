@@ -5,7 +5,7 @@ use mathlib.Core.List.{List}
 use Prim.Native.Nat.{ℕ, suc, _<_}
 use lib.ListN.{length}
 use Rattle.bundle.specs.Refusals.{readFault}
-use Rattle.paper.specs.Paper.{Design, Conf, Step, Moves, Same, Initial}
+use Rattle.paper.specs.Paper.{Design, Conf, Step, Moves, R, Same, Initial}
 use Rattle.paper.specs.Words.{size}
 use Rattle.paper.specs.Form.{wide}
 use Rattle.paper.specs.Step.{columnOf, view, stepFault, stepped}
@@ -34,6 +34,8 @@ pub record StepMoves (k : ℕ) (d : Design) (w : List ℕ) (s : Step) : Type 0 w
 pub record RunMoves (k : ℕ) (d : Design) (w : List ℕ) (ss : List Step) (r : Ran) : Type 0 where
   -- each accepted step is a move, from the words after the steps before it
   pub each : (i : ℕ) → i < r .accepted → Moves d (columnOf k d) (stepAt ss i) (view k d (after k d w ss i)) (view k d (after k d w ss (suc i)))
+  -- so the words after i steps and those after one more are in the paper's relation R
+  pub related : (i : ℕ) → i < r .accepted → R d (columnOf k d) (view k d (after k d w ss i)) (view k d (after k d w ss (suc i)))
   -- what is left are the words after the accepted steps
   pub left : r .left ≡ after k d w ss (r .accepted)
   -- no refusal: every step was accepted

@@ -8,29 +8,35 @@ use Prim.Native.Nat.{ℕ, suc, _≤_, _<_}
 use lib.ListN.{length, drop}
 use Rattle.fault.specs.Fault.{refused, nothingDone}
 use Rattle.fault.specs.declared.Answer.{Answer}
-use Rattle.bundle.specs.Bundle.{nOf, tOf, fOf, formOf, tableInUse, startsOf, levelOf}
+use Rattle.bundle.specs.Bundle.{nOf, tOf, fOf, formOf, correctOf, tableInUse, startsOf, levelOf}
 use Rattle.bundle.specs.Refusals.{readFault}
 use Rattle.paper.specs.Paper.{Design}
 use Rattle.paper.specs.Words.{state}
 use Rattle.paper.specs.Step.{columnOf, sentIn, countOf}
-use Rattle.paper.specs.Run.{after}
 use Rattle.agree.specs.Translation.{tagged, lowest}
 use Rattle.agree.specs.Picture.{Pictured}
 use Rattle.engine.specs.Design.{designIn, sizesIn}
-use Rattle.engine.specs.Entry.{startIn, scheduleOf, ranOf, runAnswer}
-use Rattle.translate.specs.Entry.{translationOf, noOther, translateToAnswer, translateToBytes, usual, translateAnswer}
+use Rattle.engine.specs.Entry.{ranOf, runAnswer}
+use Rattle.translate.specs.Entry.{translationOf, noOther, translateToAnswer, translateToBytes, usual, translateAnswer, translateBytes}
 use Rattle.paper.specs.Order.{Found, none, found, first}
 use Rattle.first_step.specs.Entry.{answerOf, firstAnswer}
+use Rattle.words.specs.Words.{correctIn, faultyIn, sentCountIn}
 use Rattle.words.specs.Facts.{mostWords}
+use Rattle.claims.specs.Demand1.{Runs, afterIn}
 
--- a bundle runs: it is read, and no step is refused
-pub record Runs (b standing : List ℕ) : Type 0 where
-  pub read : readFault b standing .number ≡ 0
-  pub accepted : ranOf b standing .refusal ≡ 0
+-- of a bundle beside its standing table: the types; and after the first i steps, the messages of type m that board p has received from
+-- correct and from faulty boards, and those that were sent, as a report shows them
+abbrev pub typesIn : List ℕ → List ℕ → ℕ
+typesIn b standing = sizesIn b standing .types
 
--- the words after the first i steps of its schedule
-abbrev pub afterIn : List ℕ → List ℕ → ℕ → List ℕ
-afterIn b standing i = after (levelOf (formOf b)) (designIn b standing) (startIn (sizesIn b standing) b) (scheduleOf b) i
+abbrev pub correctAfter : List ℕ → List ℕ → ℕ → ℕ → ℕ → ℕ
+correctAfter b standing i p m = correctIn (sizesIn b standing) (afterIn b standing i) p m
+
+abbrev pub faultyAfter : List ℕ → List ℕ → ℕ → ℕ → ℕ → ℕ
+faultyAfter b standing i p m = faultyIn (sizesIn b standing) (afterIn b standing i) p m
+
+abbrev pub sentAfter : List ℕ → List ℕ → ℕ → ℕ → ℕ
+sentAfter b standing i m = sentCountIn (sizesIn b standing) (afterIn b standing i) m
 
 -- words w of level i and words v of level k: equal states, equal counts of each type, whatever they are made of, equal sent counts
 pub record Alike (d : Design) (i : ℕ) (w : List ℕ) (k : ℕ) (v : List ℕ) : Type 0 where
@@ -57,6 +63,17 @@ pub record Translated (b standing : List ℕ) (k : ℕ) (c : List ℕ) : Type 0 
   -- to a finer form and back: the same bytes
   pub back : k < formOf b → translationOf c standing (formOf b) ≡ b
 
+-- ---- demand 3's own sentence, for message and counting form: a bundle b that runs, and what `translate` writes, c
+pub record SideBySide (b standing c : List ℕ) : Type 0 where
+  pub answered : (lent : ℕ) → length b ≤ lent → translateAnswer b standing lent ≡ record { refusal = 0; place = 0; count = length b }
+  pub written : (out : List ℕ) → length b ≤ length out → translateBytes b standing out ≡ c ++ drop (length b) out
+  pub runs : Runs c standing
+  -- after every number i of steps, for each correct board p and type m: equal states, correct counts, faulty counts and sent counts
+  pub states : (i p : ℕ) → p < correctOf b → state (afterIn b standing i) p ≡ state (afterIn c standing i) p
+  pub corrects : (i p m : ℕ) → p < correctOf b → m < typesIn b standing → correctAfter b standing i p m ≡ correctAfter c standing i p m
+  pub faulties : (i p m : ℕ) → p < correctOf b → m < typesIn b standing → faultyAfter b standing i p m ≡ faultyAfter c standing i p m
+  pub sents : (i m : ℕ) → m < typesIn b standing → sentAfter b standing i m ≡ sentAfter c standing i m
+
 -- ---- a bundle that runs in form j, as c, and in form j + 1, as e: the picture of the paper, after every number of steps, and the same
 -- first possible step, translated as one step more would be, or none in both
 abbrev pub taggedFound : ℕ → Design → Found → Found
@@ -79,6 +96,7 @@ pub record Refuses (b standing : List ℕ) (k : ℕ) (out : List ℕ) (a : Answe
 
 pub record Demand3 : Type 0 where
   pub translated : (b standing : List ℕ) (k : ℕ) → Runs b standing → noOther b k ≡ false → Translated b standing k (translationOf b standing k)
+  pub side-by-side : (b standing : List ℕ) → Runs b standing → formOf b ≤ 1 → SideBySide b standing (translationOf b standing (usual b))
   -- in its own form a bundle is itself; so these are the bundle and its translations, in all forms that there are
   pub own : (b standing : List ℕ) → Runs b standing → translationOf b standing (formOf b) ≡ b
   pub neighbours : (b standing : List ℕ) (j : ℕ) → Runs b standing → j ≤ 1 → Neighbours j (designIn b standing) standing (translationOf b standing j) (translationOf b standing (suc j))

@@ -1,5 +1,6 @@
 pub mod Figures
 pub mod Demand2
+pub mod Demand1
 pub mod Agreed
 pub mod Plain
 pub mod FirstStep
