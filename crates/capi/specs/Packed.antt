@@ -1,5 +1,5 @@
--- The one number that an exported function answers (the boundary page, "Packed" and "Packed step"), and that nothing is lost in it.
--- The proof of the last is `nothing-lost` of proofs/PackedLaws.antt.
+-- The one number that an exported function answers (crates/capi/macaroosh.h, "Packed" and "A packed step"), and that nothing is lost in it,
+-- a place of 2^24 or more aside (`capped`). The proof of the last is `nothing-lost` of proofs/PackedLaws.antt.
 use mathlib.Core.Path.{_≡_}
 use mathlib.Core.List.{List}
 use Prim.Native.Nat.{ℕ, _+_, _-_, _*_, _/_, _%_, _^_, _≤_, _<_}
