@@ -52,7 +52,7 @@ FirstFits (First.Refused k p) = (1 ≤ k) × (k < 2 ^ 8) × (p < 2 ^ 16)
 FirstFits First.Nothing = Unit {0}
 FirstFits (First.Step b r m q) = (b < 2 ^ 8) × (r < 2 ^ 8) × (m < 2 ^ 8) × (q < 2 ^ 8)
 
--- ---- nothing is lost: whatever fits is read back from its number, and every answer fits
+-- ---- nothing is lost: whatever fits is read back from its number, and every answer fits, that of `undraw` once it is capped
 pub record NothingLost : Type 0 where
   pub answer-back : (a : Answer) → Fits a → answerIn (packed a) ≡ a
   pub first-back : (f : First) → FirstFits f → firstIn (packedFirst f) ≡ f
