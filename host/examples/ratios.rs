@@ -1,4 +1,4 @@
-//! The proved library beside the hand-written fast version, measured in turns in one run; docs/COST.md has the results.
+//! The proved library beside the hand-written fast version, measured in turns in one run; docs/COST.md has the cases.
 //!
 //! - `ratios` prints a line for each case, question and form: both times of one call, and their ratio.
 //! - `ratios write FOLDER` writes each case's bundle there and prints a line for each measurement: file and question.

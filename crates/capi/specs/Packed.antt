@@ -1,5 +1,5 @@
--- The one number that an exported function answers (the boundary page, "Packed" and "Packed step"), and that nothing is lost in it.
--- The proof of the last is `nothing-lost` of proofs/PackedLaws.antt.
+-- The one number that an exported function answers (crates/capi/macaroosh.h, "Packed" and "A packed step"), and that nothing is lost in it,
+-- a place of 2^24 or more aside (`capped`). The proof of the last is `nothing-lost` of proofs/PackedLaws.antt.
 use mathlib.Core.Path.{_≡_}
 use mathlib.Core.List.{List}
 use Prim.Native.Nat.{ℕ, _+_, _-_, _*_, _/_, _%_, _^_, _≤_, _<_}
@@ -52,7 +52,7 @@ FirstFits (First.Refused k p) = (1 ≤ k) × (k < 2 ^ 8) × (p < 2 ^ 16)
 FirstFits First.Nothing = Unit {0}
 FirstFits (First.Step b r m q) = (b < 2 ^ 8) × (r < 2 ^ 8) × (m < 2 ^ 8) × (q < 2 ^ 8)
 
--- ---- nothing is lost: whatever fits is read back from its number, and every answer fits
+-- ---- nothing is lost: whatever fits is read back from its number, and every answer fits, that of `undraw` once it is capped
 pub record NothingLost : Type 0 where
   pub answer-back : (a : Answer) → Fits a → answerIn (packed a) ≡ a
   pub first-back : (f : First) → FirstFits f → firstIn (packedFirst f) ≡ f

@@ -1,4 +1,4 @@
-// The library that others link: each exported function is a thin call, its answer packed as the boundary page says.
+// The library that others link: each exported function is a thin call, its answer packed as macaroosh.h says.
 ghost use mathlib.Core.Path.{_≡_};
 ghost use lib.ListN.{length};
 ghost use Rattle.fault.specs.Tests.{_below_};

@@ -1,5 +1,5 @@
--- Drawings of a table (Q-1, "Prove"), as the two calls see them: there and back, with any blanks; 60 and its place; what a drawing is answered;
--- what one blank more changes. Proofs: proofs/Drawings.antt.
+-- Drawings of a table (Q-1, "read back exactly what we write, to the same table bytes"), as the two calls see them: there and back, with any
+-- blanks; 60 and its place; what a drawing is answered; what one blank more changes. Proofs: proofs/Drawings.antt.
 use mathlib.Core.Path.{_≡_}
 use mathlib.Core.Bool.{true, false, _&&_}
 use mathlib.Core.List.{List, _∷_, _++_}

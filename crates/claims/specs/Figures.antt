@@ -63,7 +63,7 @@ scheduleIn form starts steps n t f = starts ++ (steps ++ (length steps ∷ 0 ∷
 abbrev schedule : List ℕ → List ℕ → ℕ → ℕ → ℕ → List ℕ
 schedule = scheduleIn 0
 
--- the echo table's drawing, as Q-1 has it
+-- the echo table's drawing: the lines of Q-1, as crates/capi/macaroosh.h sets them
 abbrev echoText : List ℕ
 echoText =
     text "digraph t {\nT=1; k=3;\n" ++

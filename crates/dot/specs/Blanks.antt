@@ -1,4 +1,5 @@
--- Blanks between tokens (Q-1, "Prove"): where they may be added to any text, and what they change. Proofs: proofs/Blanks.antt and proofs/Gaps.antt.
+-- Blanks between tokens (Q-1, "the reader allows spaces, tabs and line ends between tokens, but nothing else new"): where they may be added
+-- to any text, and what they change. Proofs: proofs/Blanks.antt and proofs/Gaps.antt.
 use Prim.Native.Nat.{ℕ, zero, suc}
 use mathlib.Core.Path.{_≡_}
 use mathlib.Core.Bool.{Bool, true, false}

@@ -1,4 +1,5 @@
--- What a drawing is, and where a text leaves all of them (Q-1, "Tokens" and "60's place"). Proofs: proofs/Tokens.antt and proofs/TokenPlace.antt.
+-- What a drawing is, and where a text leaves all of them (Q-1, "the first byte (or the length) at which no drawing of ours could go on").
+-- Proofs: proofs/Tokens.antt and proofs/TokenPlace.antt.
 use Prim.Native.Nat.{ℕ, suc, _≤_, _<_}
 use mathlib.Core.Path.{_≡_}
 use mathlib.Core.List.{List, _++_}

@@ -1,4 +1,4 @@
--- Numbers in plain decimal (Q-1, "The text"): no leading zero, no plus, no −0.
+-- Numbers in plain decimal, as they are written, and read back "exactly" so (Q-1): no leading zero, no plus, no −0.
 use Prim.Native.Nat.{ℕ, _+_, _-_, _/_, _%_}
 use Prim.Native.Char.{code}
 use Prim.Native.String.{String, [], _∷_}

@@ -1,4 +1,5 @@
--- What may stand in a drawing (Q-1, "Tokens"), as plans: lists of items, each of which says what text may stand there.
+-- What may stand in a drawing (Q-1, "exactly what we write", and blanks "between tokens"), as plans: lists of items, each of which says what
+-- text may stand there.
 use Prim.Native.Nat.{ℕ, zero, suc, _+_, _*_}
 use mathlib.Core.List.{List, [], _∷_}
 use mathlib.Core.Bool.{cond}

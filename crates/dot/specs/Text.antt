@@ -1,4 +1,5 @@
--- The drawing of a table (Q-1, "The text"): its tokens, and between them what the writer puts there or any blanks.
+-- The drawing of a table (Q-1, "`digraph t {`, a line with T and k, one for each state .., one for each rule .., `}`"): its tokens, and
+-- between them what the writer puts there or any blanks. That a text may also leave those out is a reading of ours (docs/DECISIONS.md).
 use Prim.Native.Nat.{ℕ, zero, suc, _+_, _*_, _%_}
 use mathlib.Core.Path.{_≡_}
 use mathlib.Core.Bool.{Bool, true, _||_}

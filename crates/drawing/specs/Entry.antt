@@ -1,4 +1,5 @@
--- What `draw` and `undraw` answer and leave, for every table, text and lent bytes (Q-1, "Reading", "Writing").
+-- What `draw` and `undraw` answer and leave, for every table, text and lent bytes (Q-1, "Refusals: 60 .. then 2, 4 to 8 .. then
+-- 61" and "The writer gives 1 to 8, then 61").
 use mathlib.Core.List.{List, [], _∷_, _++_}
 use Prim.Native.Nat.{ℕ, _+_, _*_, _/_, _%_}
 use lib.ListN.{length, drop}

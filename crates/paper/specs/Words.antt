@@ -1,5 +1,5 @@
--- Configuration words (outline): C states; for each board and type a cell of k words; T sent words. Their places have their names here;
--- the definitions above go by the views and by what changes them.
+-- The words of a configuration (outline, "Configuration words"): C states; for each board and type a cell of k words; T sent words. Their
+-- places have their names here; the definitions above go by the views and by what changes them.
 use mathlib.Core.Bool.{Bool}
 use mathlib.Core.List.{List, _++_}
 use Prim.Native.Nat.{ℕ, zero, suc, _+_, _*_}
