@@ -1,8 +1,8 @@
 //! One step, to be counted from outside: its instructions by measure/growth, the words it stores by measure/written.
 //!
 //! - `growth write FOLDER` writes the bundles of each pair there, NAME-0 without and NAME-1 with the last step, and prints a line
-//!   for each pair: NAME, form, types, kind, boards, how many words are stored before the step, and the places of those that it
-//!   has to do with.
+//!   for each pair: NAME, form, types, kind, boards, how many words are stored one by one before the step, and the places of those
+//!   that it has to do with.
 //! - `growth ask library|rust|more NAME 0|1` reads both bundles, prints the addresses of the first lent word and of the end, and
 //!   asks one of the bundles to be run. `more` is the library, and one store more into its first word.
 

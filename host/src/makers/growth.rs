@@ -27,7 +27,8 @@ pub struct Pair {
     pub bundles: [Vec<u8>; 2],
     /// The words that it changes, by their places.
     pub places: Vec<usize>,
-    /// How many stores the run without it makes, where each word is begun once and each step stores those that it has to do with.
+    /// How many stores the run without it makes after its words are cleared, where each start is placed once and each step stores
+    /// those that it has to do with.
     pub stores: usize,
 }
 
@@ -102,7 +103,7 @@ fn pair(form: Form, types: usize, kind: &'static str, correct: usize) -> Pair {
     assert_eq!(refusal, None, "{kind} of {correct} boards with {types} types");
     let mut of_steps: Vec<Vec<usize>> = whole.steps.iter().map(|&step| places(&whole, step)).collect();
     let places = of_steps.pop().expect("a step");
-    let stores = whole.start().words().len() + of_steps.concat().len();
+    let stores = correct + of_steps.concat().len();
     Pair { form, types, kind, correct, bundles, places, stores }
 }
 
