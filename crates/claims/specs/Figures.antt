@@ -86,6 +86,63 @@ twoTypes = 0x01 ∷ 0x00 ∷ 0x00 ∷ 0x00 ∷ 0xFF ∷ 0x02 ∷ 0x03 ∷ 0x04 �
 abbrev twoTypesText : List ℕ
 twoTypesText = text "digraph t {\nT=2; k=1;\ns0 [label=\"1 0\"];\ns0 -> s0 [label=\"-1 2 3, 4 5 -6\"];\n}\n"
 
+-- a table of two types, k = 1: states 0 to 2 are initial, 3 has sent type 0, 4 type 1, 5 and 6 both; no rule that asks for messages asks for as many of both types
+abbrev pair : List ℕ
+pair =
+    0x01 ∷ 0x00 ∷ 0x01 ∷ 0x00 ∷ 0x01 ∷ 0x00 ∷ 0x00 ∷ 0x01 ∷ 0x00 ∷ 0x02 ∷ 0x00 ∷ 0x03 ∷ 0x02 ∷ 0x03 ∷
+    0x00 ∷ 0x04 ∷ 0x00 ∷ 0x00 ∷ 0x00 ∷ 0x01 ∷ 0xFF ∷ 0x00 ∷
+    0x01 ∷ 0x04 ∷ 0x01 ∷ 0xFF ∷ 0x00 ∷ 0x00 ∷ 0x00 ∷ 0x00 ∷
+    0x02 ∷ 0x03 ∷ 0x00 ∷ 0x00 ∷ 0x00 ∷ 0x00 ∷ 0x00 ∷ 0x00 ∷
+    0x03 ∷ 0x05 ∷ 0x01 ∷ 0x00 ∷ 0x00 ∷ 0x00 ∷ 0x01 ∷ 0x00 ∷
+    0x03 ∷ 0x03 ∷ 0x00 ∷ 0x00 ∷ 0x00 ∷ 0x00 ∷ 0x00 ∷ 0x00 ∷
+    0x04 ∷ 0x04 ∷ 0x00 ∷ 0x00 ∷ 0x00 ∷ 0x00 ∷ 0x00 ∷ 0x00 ∷
+    0x04 ∷ 0x05 ∷ 0x00 ∷ 0x00 ∷ 0x01 ∷ 0x00 ∷ 0x00 ∷ 0x00 ∷
+    0x05 ∷ 0x05 ∷ 0x00 ∷ 0x00 ∷ 0x00 ∷ 0x00 ∷ 0x00 ∷ 0x00 ∷
+    0x05 ∷ 0x06 ∷ 0x00 ∷ 0x01 ∷ 0x00 ∷ 0xFF ∷ 0x01 ∷ 0x01 ∷
+    0x56 ∷ 0x00 ∷ 0x48 ∷ 0x00 ∷ 0x07 ∷ 0x09 ∷ 0x02 ∷ 0x01 ∷ []
+
+-- receipts: board, rule and type of each, and then its source
+abbrev sourced : List ℕ → List ℕ → List ℕ
+sourced [] qs = []
+sourced (p ∷ []) qs = []
+sourced (p ∷ r ∷ []) qs = []
+sourced (p ∷ r ∷ m ∷ xs) [] = []
+sourced (p ∷ r ∷ m ∷ xs) (q ∷ qs) = p ∷ r ∷ m ∷ q ∷ sourced xs qs
+
+-- for that table, n = 5, t = 4, f = 2: board 0 sends type 0, then 15 receipts from these sources, the last of type m
+abbrev pairLast : ℕ → ℕ → List ℕ → List ℕ
+pairLast m form sources =
+    scheduleIn form (2 ∷ 0 ∷ 1 ∷ [])
+    (0 ∷ 2 ∷ 255 ∷ 255 ∷
+    sourced
+    (2 ∷ 1 ∷ 0 ∷ 1 ∷ 0 ∷ 1 ∷ 2 ∷ 6 ∷ 0 ∷ 1 ∷ 6 ∷ 0 ∷ 1 ∷ 7 ∷ 1 ∷ 0 ∷ 4 ∷ 0 ∷ 0 ∷ 4 ∷ 1 ∷ 0 ∷ 4 ∷ 0 ∷
+    0 ∷ 4 ∷ 1 ∷ 2 ∷ 7 ∷ 0 ∷ 0 ∷ 4 ∷ 0 ∷ 0 ∷ 4 ∷ 0 ∷ 0 ∷ 4 ∷ 1 ∷ 0 ∷ 4 ∷ 0 ∷ 2 ∷ 8 ∷ m ∷ [])
+    sources)
+    5 4 2
+
+-- it ends with 5 and 3 messages of the two types at board 0, 1 and 2 at board 1, 4 and 0 at board 2
+abbrev pairIn : ℕ → List ℕ → List ℕ
+pairIn = pairLast 0
+
+-- the sources of its receipts: senders; their tags, and the lowest senders of these; none told; the correct tag first, and the lowest senders of that
+abbrev senders : List ℕ
+senders = 4 ∷ 3 ∷ 0 ∷ 2 ∷ 4 ∷ 3 ∷ 2 ∷ 1 ∷ 3 ∷ 1 ∷ 4 ∷ 2 ∷ 1 ∷ 0 ∷ 2 ∷ []
+
+abbrev tags : List ℕ
+tags = 1 ∷ 1 ∷ 0 ∷ 0 ∷ 1 ∷ 1 ∷ 0 ∷ 0 ∷ 1 ∷ 0 ∷ 1 ∷ 0 ∷ 0 ∷ 0 ∷ 0 ∷ []
+
+abbrev lowestOfTags : List ℕ
+lowestOfTags = 3 ∷ 3 ∷ 0 ∷ 0 ∷ 4 ∷ 3 ∷ 1 ∷ 0 ∷ 3 ∷ 1 ∷ 4 ∷ 1 ∷ 2 ∷ 2 ∷ 2 ∷ []
+
+abbrev untold : List ℕ
+untold = replicate 15 0
+
+abbrev correctFirst : List ℕ
+correctFirst = 0 ∷ 0 ∷ 1 ∷ 0 ∷ 0 ∷ 0 ∷ 0 ∷ 0 ∷ 0 ∷ 0 ∷ 0 ∷ 1 ∷ 1 ∷ 1 ∷ 0 ∷ []
+
+abbrev lowestOfCorrectFirst : List ℕ
+lowestOfCorrectFirst = 0 ∷ 2 ∷ 3 ∷ 0 ∷ 1 ∷ 0 ∷ 1 ∷ 1 ∷ 2 ∷ 1 ∷ 2 ∷ 3 ∷ 3 ∷ 4 ∷ 2 ∷ []
+
 -- a text that leaves all drawings at p; a drawing that is refused with k at place p; and one byte lent that stays
 abbrev leaves : List ℕ → ℕ → Case
 leaves t p = undraws t 60 p 0 (9 ∷ [])
@@ -202,4 +259,29 @@ cases =
     runs (oneEcho 1 2 0) (asking 0) 0 0 1 (2 ∷ 0 ∷ 0 ∷ 1 ∷ 0 ∷ 0 ∷ 1 ∷ []) ∷
     -- after that wait the next board may hear the faulty echo; where rule 1 asks for t, board 0 goes to SE by itself
     firstOf (oneEcho 0 0 3) echo (First.Step 1 0 0 3) ∷
-    firstOf (oneEcho 0 0 3) (asking 0) (First.Step 0 1 255 255) ∷ []
+    firstOf (oneEcho 0 0 3) (asking 0) (First.Step 0 1 255 255) ∷
+    -- two types and unequal starts, in each form, with the table in front: no two boards, cells or sent words are the same
+    runs (pair ++ pairIn 0 senders) echo 0 0 16 (3 ∷ 5 ∷ 6 ∷ 31 ∷ 14 ∷ 4 ∷ 24 ∷ 23 ∷ 0 ∷ 7 ∷ 6 ∷ []) ∷
+    runs (pair ++ pairIn 1 tags) echo 0 0 16 (3 ∷ 5 ∷ 6 ∷ 3 ∷ 2 ∷ 2 ∷ 1 ∷ 1 ∷ 0 ∷ 0 ∷ 2 ∷ 3 ∷ 1 ∷ 0 ∷ 0 ∷ 3 ∷ 2 ∷ []) ∷
+    runs (pair ++ pairIn 2 untold) echo 0 0 16 (3 ∷ 5 ∷ 6 ∷ 5 ∷ 3 ∷ 1 ∷ 2 ∷ 4 ∷ 0 ∷ 3 ∷ 2 ∷ []) ∷
+    -- with the last receipt of type 1, board 2 has three of the four of type 0 that rule 8 asks for
+    runs (pairLast 1 0 senders) pair 25 15 15 (3 ∷ 5 ∷ 5 ∷ 31 ∷ 14 ∷ 4 ∷ 24 ∷ 19 ∷ 0 ∷ 7 ∷ 6 ∷ []) ∷
+    runs (pairLast 1 1 tags) pair 25 15 15 (3 ∷ 5 ∷ 5 ∷ 3 ∷ 2 ∷ 2 ∷ 1 ∷ 1 ∷ 0 ∷ 0 ∷ 2 ∷ 2 ∷ 1 ∷ 0 ∷ 0 ∷ 3 ∷ 2 ∷ []) ∷
+    runs (pairLast 1 2 untold) pair 25 15 15 (3 ∷ 5 ∷ 5 ∷ 5 ∷ 3 ∷ 1 ∷ 2 ∷ 3 ∷ 0 ∷ 3 ∷ 2 ∷ []) ∷
+    -- with the first two starts exchanged, rule 2 does not leave board 0's state
+    runs (scheduleIn 0 (0 ∷ 2 ∷ 1 ∷ []) (0 ∷ 2 ∷ 255 ∷ 255 ∷ []) 5 4 2) pair 22 0 0 (0 ∷ 2 ∷ 1 ∷ 0 ∷ 0 ∷ 0 ∷ 0 ∷ 0 ∷ 0 ∷ 0 ∷ 0 ∷ []) ∷
+    -- between any two forms; senders and tags that are not told come back as the lowest and as the correct one, and leave other words
+    translatesTo (pairIn 0 senders) pair 1 0 0 75 (pairIn 1 tags) ∷
+    translatesTo (pairIn 0 senders) pair 2 0 0 75 (pairIn 2 untold) ∷
+    translatesTo (pairIn 1 tags) pair 0 0 0 75 (pairIn 0 lowestOfTags) ∷
+    translatesTo (pairIn 1 tags) pair 2 0 0 75 (pairIn 2 untold) ∷
+    translatesTo (pairIn 2 untold) pair 1 0 0 75 (pairIn 1 correctFirst) ∷
+    translatesTo (pairIn 2 untold) pair 0 0 0 75 (pairIn 0 lowestOfCorrectFirst) ∷
+    translatesTo (pair ++ pairIn 2 untold) echo 0 0 0 169 (pair ++ pairIn 0 lowestOfCorrectFirst) ∷
+    runs (pairIn 0 lowestOfTags) pair 0 0 16 (3 ∷ 5 ∷ 6 ∷ 31 ∷ 14 ∷ 1 ∷ 24 ∷ 15 ∷ 0 ∷ 7 ∷ 6 ∷ []) ∷
+    runs (pairIn 1 correctFirst) pair 0 0 16 (3 ∷ 5 ∷ 6 ∷ 3 ∷ 2 ∷ 2 ∷ 1 ∷ 1 ∷ 0 ∷ 2 ∷ 0 ∷ 3 ∷ 1 ∷ 0 ∷ 0 ∷ 3 ∷ 2 ∷ []) ∷
+    runs (pairIn 0 lowestOfCorrectFirst) pair 0 0 16 (3 ∷ 5 ∷ 6 ∷ 31 ∷ 14 ∷ 1 ∷ 6 ∷ 15 ∷ 0 ∷ 7 ∷ 6 ∷ []) ∷
+    -- board 0 has all of type 0, and by rule 3 lacks one of type 1: only faulty board 4 can send it
+    firstOf (pair ++ pairIn 0 senders) echo (First.Step 0 3 1 4) ∷
+    firstOf (pair ++ pairIn 1 tags) echo (First.Step 0 3 1 1) ∷
+    firstOf (pair ++ pairIn 2 untold) echo (First.Step 0 3 1 0) ∷ []
