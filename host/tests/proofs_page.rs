@@ -242,7 +242,7 @@ type Slip = (&'static str, &'static str, &'static str, &'static str);
 
 const SLIPS: [Slip; 15] = [
     ("a statement's name", "`demand3 .translated`", "`demand33 .translated`", "demand33"),
-    ("a statement within a module", "`first-possible`", "`first-posible`", "first-posible"),
+    ("a statement within a module", "`read-by`", "`read-bye`", "read-bye"),
     ("a part of a statement's name", "`plain-counter .tags`", "`counter .tags`", "counter"),
     ("a field", "`StepMoves .one`", "`StepMoves .on`", ".on is"),
     ("a field that has no record", "`demand3 .own`", "`demand3 .standing`", ".standing"),
