@@ -1,8 +1,9 @@
 /* The proved bench for C programs. Link target/staticlib/libcapi.a, which 'rt staticlib capi' writes, for x86-64 Linux.
  *
  * A bundle is read beside a standing table, which is looked at only where the bundle has no table in front. Any bytes may be
- * given: what is no bundle, table or drawing is refused by number. A pointer is never NULL, also where its length is 0, and
- * lent memory does not overlap what is read. No call keeps a pointer, allocates or reads more than its arguments. */
+ * given: what is no bundle, table or drawing is refused by number. A pointer may be NULL where its length is 0, and only there;
+ * lent memory does not overlap what is read. No call keeps a pointer, allocates or reads more than its arguments.
+ * example_run.c and example_draw.c, beside this file, are whole programs. */
 #ifndef MACAROOSH_H
 #define MACAROOSH_H
 

@@ -179,6 +179,23 @@ static void drawings(void) {
           memcmp(table, echo, sizeof echo) == 0 && all(table + sizeof echo, sizeof table - sizeof echo, 0xAA));
 }
 
+/* NULL where the length is 0: no bundle, no standing table, nothing lent. */
+static void nothing_lent(void) {
+    uint64_t words[7] = {9, 9, 9, 9, 9, 9, 9};
+    uint8_t out[sizeof w];
+    check("no bundle at all", answers(macaroosh_run(NULL, 0, echo, sizeof echo, words, 7), 10, 0, 0));
+    check("no standing table at all", answers(macaroosh_run(w, sizeof w, NULL, 0, words, 7), 1, 0, 0));
+    check("no words at all", answers(macaroosh_run(w, sizeof w, echo, sizeof echo, NULL, 0), 30, 0, 0));
+    check("nothing to translate", answers(macaroosh_translate(NULL, 0, NULL, 0, out, sizeof out), 10, 0, 0));
+    check("nowhere to write", answers(macaroosh_translate(w, sizeof w, echo, sizeof echo, NULL, 0), 30, 0, 0));
+    check("nor in a form", answers(macaroosh_translate_to(w, sizeof w, echo, sizeof echo, MACAROOSH_PLAIN, NULL, 0), 30, 0, 0));
+    check("no first step of nothing", macaroosh_refusal(macaroosh_first_step(NULL, 0, NULL, 0)) == 10);
+    check("nothing to draw", answers(macaroosh_draw(NULL, 0, out, sizeof out), 1, 0, 0));
+    check("nowhere to draw", answers(macaroosh_draw(echo, sizeof echo, NULL, 0), 61, 0, 0));
+    check("nothing drawn", answers(macaroosh_undraw(NULL, 0, out, sizeof out), 60, 0, 0));
+    check("nowhere for the table", answers(macaroosh_undraw((const uint8_t *)drawing, sizeof drawing - 1, NULL, 0), 61, 0, 0));
+}
+
 static void refusals(void) {
     uint8_t twice[sizeof w], out[sizeof w], as_it_was[sizeof w];
     uint64_t words[7] = {9, 9, 9, 9, 9, 9, 9};
@@ -208,6 +225,7 @@ int main(void) {
     first_steps();
     drawings();
     refusals();
+    nothing_lent();
     printf("%d passed, %d failed\n", passed, failed);
     return failed != 0;
 }
