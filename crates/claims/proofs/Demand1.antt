@@ -128,7 +128,7 @@ pub demand1 : Demand1
 demand1 b standing lent = one-of b standing lent (ℕ-discrete (readFault b standing .number) 0) (decLt (length lent) (roomIn b standing))
 
 -- ---- the most words that a configuration has are enough
-room-few : (b standing : List ℕ) (lent : ℕ) → readFault b standing .number ≡ 0 → mostWords ≤ lent → roomOf (sizesIn b standing) ≤ lent
+pub room-few : (b standing : List ℕ) (lent : ℕ) → readFault b standing .number ≡ 0 → mostWords ≤ lent → roomOf (sizesIn b standing) ≤ lent
 unfolding size
 room-few b standing lent z l =
     let s = sizesIn b standing in

@@ -12,3 +12,5 @@ pub mod NoEcho
 pub mod OneAnswer
 pub mod DrawnTable
 pub mod Drawings
+pub mod LongestDrawing
+pub mod Maxima

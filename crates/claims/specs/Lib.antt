@@ -8,3 +8,4 @@ pub mod Demand3
 pub mod NoEcho
 pub mod OneAnswer
 pub mod Drawings
+pub mod Maxima

@@ -14,12 +14,12 @@ use Rattle.pen.specs.Pen.{mostHeadText, mostStateText, mostRuleText, mos
 use Rattle.dot.specs.Numbers.{text, decimal, signed}
 use Rattle.dot.specs.Text.{Piece, written, chars, after, tight, aBlank, newLine, headText, joint, numbersText, labelText, stateText, ruleText, statesText, rulesText, endText, tableText, drawingOf}
 
-chars-long : (w : List ℕ) (p : List Piece) → length (written (chars w p)) ≡ length w + length (written p)
+pub chars-long : (w : List ℕ) (p : List Piece) → length (written (chars w p)) ≡ length w + length (written p)
 unfolding written
 chars-long [] p = omega arith
 chars-long (b ∷ w) p = omega (arith, chars-long w p)
 
-after-long : (d w : List ℕ) (p : List Piece) → length (written (after d w p)) ≡ length d + length w + length (written p)
+pub after-long : (d w : List ℕ) (p : List Piece) → length (written (after d w p)) ≡ length d + length w + length (written p)
 unfolding written
 after-long d w p = length-append d (written (chars w p)) ∙ omega (arith, chars-long w p)
 
@@ -33,7 +33,7 @@ decimal-long v = split (ltb v 10) (ltb v 100)
     split false true = omega arith
     split false false = omega arith
 
-signed-long : (b : ℕ) → length (signed b) ≤ 4
+pub signed-long : (b : ℕ) → length (signed b) ≤ 4
 unfolding signed _if_else_
 signed-long b = split (ltb b 128)
   where
@@ -138,7 +138,7 @@ head-long T k p =
     let p₆ = after tight (decimal T) p₅ in
     omega (arith, chars-long (decimal T) p₅, chars-long (decimal k) p₁, decimal-long T, decimal-long k)
 
-end-long : length (written endText) ≡ 3
+pub end-long : length (written endText) ≡ 3
 unfolding written
 end-long = refl
 
