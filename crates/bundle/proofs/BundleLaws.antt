@@ -10,7 +10,7 @@ use borrow.Author.Tests.{ltb-false, leb-false, not-false, eq-eqb, ne-eqb, le-leb
 use lib.ListN.{length, take, drop, length-drop}
 use lib.Seq.{length-take-le}
 use Rattle.fault.specs.declared.Verdict.{Verdict}
-use Rattle.fault.specs.Bytes.{byteAt, trailerBytes}
+use Rattle.fault.specs.Bytes.{byteAt, trailerBytes, stepBytes, mostStepBytes}
 use Rattle.fault.specs.Tests.{_over_, _atLeast_, _atMost_, _differs_, outside}
 use Rattle.fault.specs.Fault.{refused, firstFault}
 use Rattle.fault.proofs.FaultLaws.{if-yes, if-no, if-passed, then-clean, first-clean, Clean, if-most, Within, check-within, then-within, first-within}
@@ -20,7 +20,7 @@ use Rattle.table.specs.Refusals.{tableFault}
 use Rattle.table.specs.Facts.{Sized}
 use Rattle.table.proofs.TableLaws.{well-formed, table-within, table-short}
 use Rattle.senders.specs.Set.{mostBoards, mostTolerated}
-use Rattle.bundle.specs.Bundle.{stepDistance, startDistance, nOf, tOf, fOf, levelOf, correctOf, frontLength, tableInUse, startsOf, stepsAt, stepBytes, mostStepBytes, mostBundle, stepsOf, mostForm, mostLevel}
+use Rattle.bundle.specs.Bundle.{stepDistance, startDistance, nOf, tOf, fOf, levelOf, correctOf, frontLength, tableInUse, startsOf, stepsAt, mostBundle, stepsOf, mostForm, mostLevel}
 use Rattle.bundle.specs.Refusals.{noTrailer, outOfBundle, notAdmitted, stepsOff, notInitial, startFault, scheduleFault, faultWith, readFault}
 use Rattle.bundle.specs.Facts.{Trailed, Admitted, Parted, StartFits, Read}
 

@@ -3,7 +3,7 @@ use mathlib.Core.List.{List}
 use Prim.Native.Nat.{ℕ, zero, suc, _+_, _-_, _*_}
 use lib.Dec.{eqb}
 use lib.ListN.{length, take, drop}
-use Rattle.fault.specs.Bytes.{byteAt, u16At, trailerOf, trailerBytes}
+use Rattle.fault.specs.Bytes.{byteAt, u16At, trailerOf, trailerBytes, mostStepBytes}
 use Rattle.fault.specs.Fault.{_if_else_}
 use Rattle.table.specs.Table.{mostTable}
 use Rattle.senders.specs.Set.{mostBoards}
@@ -60,17 +60,6 @@ startsOf b = take (correctOf b) (drop (frontLength b) b)
 -- where the first step stands
 abbrev pub stepsAt : List ℕ → ℕ
 stepsAt b = frontLength b + correctOf b
-
--- a step record: board, rule, type, source, a byte each
-abbrev pub stepBytes : ℕ
-stepBytes = 4
-
--- the most steps that a schedule has, and their bytes
-abbrev pub mostSteps : ℕ
-mostSteps = 4096
-
-abbrev pub mostStepBytes : ℕ
-mostStepBytes = mostSteps * stepBytes
 
 -- the most bytes of a bundle, with a table of its own, starts, steps and a trailer: 17,392
 abbrev pub mostBundle : ℕ

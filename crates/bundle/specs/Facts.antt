@@ -4,11 +4,11 @@ use mathlib.Core.Bool.{true}
 use mathlib.Core.List.{List}
 use Prim.Native.Nat.{ℕ, _+_, _*_, _%_, _≤_, _<_}
 use lib.ListN.{length}
-use Rattle.fault.specs.Bytes.{byteAt, trailerOf, trailerBytes}
+use Rattle.fault.specs.Bytes.{byteAt, trailerOf, trailerBytes, stepBytes, mostStepBytes}
 use Rattle.table.specs.Table.{statesOf, factorOf, initialOf}
 use Rattle.table.specs.Facts.{WellFormed}
 use Rattle.senders.specs.Set.{mostBoards, mostTolerated}
-use Rattle.bundle.specs.Bundle.{stepDistance, startDistance, nOf, tOf, fOf, formOf, correctOf, frontLength, startsOf, stepsAt, stepBytes, mostStepBytes, stepsOf, mostForm}
+use Rattle.bundle.specs.Bundle.{stepDistance, startDistance, nOf, tOf, fOf, formOf, correctOf, frontLength, startsOf, stepsAt, stepsOf, mostForm}
 
 -- its trailer lies inside (refusals 10 and 11)
 pub record Trailed (b : List ℕ) : Type 0 where

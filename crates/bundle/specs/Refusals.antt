@@ -4,13 +4,13 @@ use mathlib.Core.List.{List}
 use Prim.Native.Nat.{ℕ, _+_, _*_, _%_}
 use lib.ListN.{length}
 use Rattle.fault.specs.declared.Verdict.{Verdict}
-use Rattle.fault.specs.Bytes.{byteAt, trailerBytes}
+use Rattle.fault.specs.Bytes.{byteAt, trailerBytes, stepBytes, mostStepBytes}
 use Rattle.fault.specs.Tests.{_below_, _over_, _atLeast_, _atMost_, _differs_, outside}
 use Rattle.fault.specs.Fault.{refused, _if_else_, _▹_, firstFault}
 use Rattle.table.specs.Table.{statesOf, factorOf, initialOf}
 use Rattle.table.specs.Refusals.{tableFault}
 use Rattle.senders.specs.Set.{mostBoards}
-use Rattle.bundle.specs.Bundle.{stepDistance, startDistance, nOf, tOf, fOf, formOf, correctOf, tableInUse, startsOf, stepBytes, mostStepBytes, mostForm}
+use Rattle.bundle.specs.Bundle.{stepDistance, startDistance, nOf, tOf, fOf, formOf, correctOf, tableInUse, startsOf, mostForm}
 
 -- 10: bundle shorter than a trailer
 unfoldable pub noTrailer : List ℕ → Bool

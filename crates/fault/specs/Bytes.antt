@@ -15,3 +15,14 @@ trailerBytes = 8
 
 abbrev pub trailerOf : List ℕ → ℕ
 trailerOf s = length s - trailerBytes
+
+-- a step record: board, rule, type, source, a byte each
+abbrev pub stepBytes : ℕ
+stepBytes = 4
+
+-- the most steps that a schedule has, and their bytes
+abbrev pub mostSteps : ℕ
+mostSteps = 4096
+
+abbrev pub mostStepBytes : ℕ
+mostStepBytes = mostSteps * stepBytes

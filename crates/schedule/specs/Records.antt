@@ -3,7 +3,7 @@ use mathlib.Core.Path.{_≡_}
 use mathlib.Core.List.{List, [], _∷_}
 use Prim.Native.Nat.{ℕ, _+_, _*_, _/_, _≤_}
 use lib.ListN.{length}
-use Rattle.fault.specs.Bytes.{byteAt}
+use Rattle.fault.specs.Bytes.{byteAt, stepBytes, mostStepBytes}
 use Rattle.paper.specs.Paper.{Step}
 use Rattle.schedule.specs.declared.Step as declared
 
@@ -30,5 +30,5 @@ bytesOf (s ∷ ss) = s .board ∷ s .rule ∷ s .type ∷ s .source ∷ bytesOf 
 
 -- the step bytes are whole records, and no more than a schedule has
 pub record Records (steps : List ℕ) : Type 0 where
-  pub few : length steps ≤ 16384
-  pub whole : length steps ≡ length steps / 4 * 4
+  pub few : length steps ≤ mostStepBytes
+  pub whole : length steps ≡ length steps / stepBytes * stepBytes

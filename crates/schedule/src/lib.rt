@@ -2,6 +2,7 @@
 ghost use mathlib.Core.Path.{_≡_};
 ghost use Prim.Native.Nat.{_+_, _*_, _<_};
 ghost use lib.ListN.{length, set};
+ghost use Rattle.fault.specs.Bytes.{mostSteps};
 ghost use Rattle.paper.specs.Paper as paper;
 ghost use Rattle.schedule.specs.Records.{meant, recordAt};
 
@@ -15,7 +16,7 @@ pub struct Step {
 
 // The step that record i names.
 pub fn step_at(steps: &[u8], i: usize) -> Step
-    requires { ⌜ (i < 4096) × (i * 4 + 3 < length (now steps)) ⌝ }
+    requires { ⌜ (i < mostSteps) × (i * 4 + 3 < length (now steps)) ⌝ }
     ensures { λ x. ⌜ (meant x ≡ recordAt (now (steps .entry)) i) × (x .source < 256) ⌝ }
 {
     let at = i * 4;
@@ -29,7 +30,7 @@ pub fn step_at(steps: &[u8], i: usize) -> Step
 
 // Record i names another source.
 pub fn set_source(steps: &mut [u8], i: usize, q: usize)
-    requires { ⌜ (i < 4096) × (i * 4 + 3 < length (now steps)) × (q < 256) ⌝ }
+    requires { ⌜ (i < mostSteps) × (i * 4 + 3 < length (now steps)) × (q < 256) ⌝ }
     ensures { λ x. ⌜ now (steps .exit) ≡ set (now (steps .entry)) (i * 4 + 3) q ⌝ }
 {
     steps[i * 4 + 3] = q as u8;

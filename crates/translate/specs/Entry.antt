@@ -7,7 +7,7 @@ use lib.Dec.{eqb}
 use lib.ListN.{length, drop}
 use Rattle.fault.specs.Tests.{_below_, _over_, _differs_}
 use Rattle.fault.specs.Fault.{refused, nothingDone, _if_else_}
-use Rattle.bundle.specs.Bundle.{formOf, tableInUse}
+use Rattle.bundle.specs.Bundle.{formOf, tableInUse, mostForm}
 use Rattle.bundle.specs.Refusals.{readFault}
 use Rattle.paper.specs.Run.{Ran}
 use Rattle.fault.specs.declared.Answer.{Answer}
@@ -19,7 +19,7 @@ translationOf b standing k = translationWith (tableInUse b standing) b k
 
 -- 31: the form asked for is the present one, or unknown
 unfoldable pub noOther : List ℕ → ℕ → Bool
-noOther b k = eqb k (formOf b) || k over 2
+noOther b k = eqb k (formOf b) || k over mostForm
 
 -- after the run of the bundle in its own form: all n bytes are written; or a step is refused at its place, and none
 unfoldable pub wrote : ℕ → Ran → Answer

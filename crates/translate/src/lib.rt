@@ -6,7 +6,8 @@ ghost use Prim.Native.Nat.{suc, _+_, _-_, _*_, _≤_, _<_};
 ghost use lib.Dec.{eqb};
 ghost use lib.ListN.{length, set};
 ghost use Rattle.senders.specs.Tally.{least};
-ghost use Rattle.bundle.specs.Bundle.{stepsOf};
+ghost use Rattle.fault.specs.Bytes.{mostSteps};
+ghost use Rattle.bundle.specs.Bundle.{stepsOf, mostForm, mostLevel};
 ghost use Rattle.paper.specs.Paper.{passing, column};
 ghost use Rattle.paper.specs.Step.{heard, stepped};
 ghost use Rattle.agree.specs.Translation.{tagOf, tagBy, lowSender, coarser};
@@ -78,7 +79,7 @@ fn translate_with<'a>(
     if o.number != 0 {
         return fault::answered(o.number, o.place, 0);
     }
-    if (form == bundle::form(bundle) as u64) | (2 < form) {
+    if (form == bundle::form(bundle) as u64) | ((bundle::MOST_FORM as u64) < form) {
         return fault::answered(31, 0, 0);
     }
     let need = bundle.len();
@@ -107,7 +108,7 @@ fn translate_in(
     words: &mut [u64],
     out: &mut [u8],
 ) -> Answer
-    requires { ⌜ (Parts s (now bundle)) × (Bounded s) × (Fair s (now ends) (now leasts) (now bundle)) × (form ≤ 2) × (length (now words) ≡ mostWords) × (length (now out) ≡ length (now bundle)) ⌝ }
+    requires { ⌜ (Parts s (now bundle)) × (Bounded s) × (Fair s (now ends) (now leasts) (now bundle)) × (form ≤ mostForm) × (length (now words) ≡ mostWords) × (length (now out) ≡ length (now bundle)) ⌝ }
     ensures { λ r. ⌜ Answers s (now (ends .entry)) (now (leasts .entry)) (now (bundle .entry)) form (now (out .entry)) r (now (out .exit)) ⌝ }
 {
     let a = run_own(bundle, s, ends, leasts, words);
@@ -134,7 +135,7 @@ fn run_own(bundle: &[u8], s: Sizes, ends: &[u8], leasts: &[u16], words: &mut [u6
 
 // The bundle that runs, with its steps in the form that is asked for, and that form as its last byte.
 fn write(bundle: &[u8], s: Sizes, form: usize, ends: &[u8], words: &mut [u64], out: &mut [u8])
-    requires { ⌜ (Parts s (now bundle)) × (Bounded s) × (Runs s (now ends) (now bundle)) × (form ≤ 2) × (length (now words) ≡ mostWords) × (length (now out) ≡ length (now bundle)) ⌝ }
+    requires { ⌜ (Parts s (now bundle)) × (Bounded s) × (Runs s (now ends) (now bundle)) × (form ≤ mostForm) × (length (now words) ≡ mostWords) × (length (now out) ≡ length (now bundle)) ⌝ }
     ensures { λ r. ⌜ WritesTo s (now (ends .entry)) (now (bundle .entry)) form (now (out .exit)) ⌝ }
 {
     copy(bundle, out);
@@ -167,7 +168,7 @@ fn write_steps(
     words: &mut [u64],
     steps: &mut [u8],
 )
-    requires { ⌜ (Parts s (now bundle)) × (Bounded s) × (Runs s (now ends) (now bundle)) × (level ≤ 2) × (length (now words) ≡ mostWords) × (now steps ≡ stepsOf (now bundle)) ⌝ }
+    requires { ⌜ (Parts s (now bundle)) × (Bounded s) × (Runs s (now ends) (now bundle)) × (level ≤ mostLevel) × (length (now words) ≡ mostWords) × (now steps ≡ stepsOf (now bundle)) ⌝ }
     ensures { λ r. ⌜ MovesTo s (now (ends .entry)) (now (bundle .entry)) level (now (steps .exit)) ⌝ }
 {
     if level < s.level {
@@ -180,7 +181,7 @@ fn write_steps(
 // ---- to a coarser level
 // From level k, one level after the other, up to the one that is asked for.
 fn coarsen(k: usize, level: usize, c: usize, steps: &mut [u8])
-    requires { ⌜ (k ≤ level) × (level ≤ 2) × (Records (now steps)) ⌝ }
+    requires { ⌜ (k ≤ level) × (level ≤ mostLevel) × (Records (now steps)) ⌝ }
     ensures { λ r. ⌜ now (steps .exit) ≡ bytesOf (coarser (level - k) k c (stepsIn (now (steps .entry)))) ⌝ }
 {
     let mut j = k;
@@ -205,7 +206,7 @@ fn write_tags(j: usize, c: usize, steps: &mut [u8])
 
 // The source of record i becomes its tag.
 fn tag_at(j: usize, c: usize, steps: &mut [u8], i: usize)
-    requires { ⌜ (i < 4096) × (i * 4 + 3 < length (now steps)) ⌝ }
+    requires { ⌜ (i < mostSteps) × (i * 4 + 3 < length (now steps)) ⌝ }
     ensures { λ r. ⌜ now (steps .exit) ≡ set (now (steps .entry)) (i * 4 + 3) (tagBy j c (recordAt (now (steps .entry)) i) .source) ⌝ }
 {
     let q = tag(j, c, schedule::step_at(steps, i));
@@ -290,7 +291,7 @@ fn write_along(s: Sizes, ends: &[u8], w: &mut [u64], steps: &mut [u8])
 
 // The tag of record i becomes its source, and the step is taken.
 fn source_at(s: Sizes, ends: &[u8], w: &mut [u64], steps: &mut [u8], i: usize)
-    requires { ⌜ (Bounded s) × (length (now ends) ≡ keptRoom) × (Holds s atRest (now w)) × (i < 4096) × (i * 4 + 3 < length (now steps)) × (Formed s (lowIn s (now w) (recordAt (now steps) i))) ⌝ }
+    requires { ⌜ (Bounded s) × (length (now ends) ≡ keptRoom) × (Holds s atRest (now w)) × (i < mostSteps) × (i * 4 + 3 < length (now steps)) × (Formed s (lowIn s (now w) (recordAt (now steps) i))) ⌝ }
     ensures { λ r. ⌜ ByEnds s (now (ends .entry)) (λ d. now (w .exit) ≡ stepped (s .level) d (now (w .entry)) (lowIn s (now (w .entry)) (recordAt (now (steps .entry)) i))) ⌝ }
     ensures { λ r. ⌜ Grown s (now (w .entry)) (now (w .exit)) ⌝ }
     ensures { λ r. ⌜ now (steps .exit) ≡ set (now (steps .entry)) (i * 4 + 3) (lowIn s (now (w .entry)) (recordAt (now (steps .entry)) i) .source) ⌝ }
@@ -302,7 +303,7 @@ fn source_at(s: Sizes, ends: &[u8], w: &mut [u64], steps: &mut [u8], i: usize)
 
 // A message of the step's tag is received from its lowest sender in transit, whom record i then names.
 fn hear_lowest(s: Sizes, w: &mut [u64], steps: &mut [u8], i: usize, x: Step)
-    requires { ⌜ (Bounded s) × (Holds s inStep (now w)) × (i < 4096) × (i * 4 + 3 < length (now steps)) × (meant x ≡ recordAt (now steps) i) × (Formed s (lowIn s (now w) (meant x))) ⌝ }
+    requires { ⌜ (Bounded s) × (Holds s inStep (now w)) × (i < mostSteps) × (i * 4 + 3 < length (now steps)) × (meant x ≡ recordAt (now steps) i) × (Formed s (lowIn s (now w) (meant x))) ⌝ }
     ensures { λ r. ⌜ now (w .exit) ≡ heard (s .level) (sized s) (now (w .entry)) (lowIn s (now (w .entry)) (meant x)) ⌝ }
     ensures { λ r. ⌜ now (steps .exit) ≡ set (now (steps .entry)) (i * 4 + 3) (lowIn s (now (w .entry)) (meant x) .source) ⌝ }
 {
