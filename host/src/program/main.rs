@@ -5,6 +5,7 @@ mod args;
 mod draw;
 mod files;
 mod graphviz;
+mod marks;
 mod replies;
 mod show;
 mod trace;
