@@ -59,8 +59,8 @@ fn numbers(table: &[u8]) -> [usize; 4] {
     [0, 1, 2, 3].map(|i| table.get(last + i).map_or(0, |&number| usize::from(number)))
 }
 
-// The refusal in words, and what it names in the text: its line, with a mark under the byte.
-fn refused(text: &[u8], refusal: Refusal) -> String {
+/// The refusal in words, and what it names in the text: its line, with a mark under the byte.
+pub fn refused(text: &[u8], refusal: Refusal) -> String {
     let reason = refusals::told(refusal);
     let at = match named(text, refusal) {
         Some(at) => at,
