@@ -18,7 +18,8 @@ pub struct Parts<'a> {
     pub types: usize,
     /// The start state of each correct board.
     pub starts: &'a [u8],
-    front: &'a [u8],
+    /// The table part of its own; empty where the standing table is read.
+    pub front: &'a [u8],
     states: &'a [u8],
     rules: &'a [u8],
     steps: &'a [u8],

@@ -15,12 +15,12 @@ pub enum Asked {
     Answer(Request),
 }
 
-/// One question about one bundle, table or drawing.
+/// One question about one bundle, table, drawing or text.
 #[derive(Debug)]
 pub struct Request {
     /// The question.
     pub command: Command,
-    /// Where the bundle, table or drawing is read.
+    /// Where the bundle, table, drawing or text is read.
     pub input: Input,
     /// Where the standing table is read, if it is not the echo table.
     pub standing: Option<Input>,
@@ -45,6 +45,10 @@ pub enum Command {
     Draw(Option<Image>),
     /// The table of a drawing.
     Undraw,
+    /// The text of a bundle.
+    Unpack,
+    /// The bundle of a text.
+    Pack,
 }
 
 impl Command {
@@ -53,6 +57,7 @@ impl Command {
         match self {
             Command::Draw(_) => "table",
             Command::Undraw => "drawing",
+            Command::Pack => "text",
             _ => "bundle",
         }
     }
@@ -90,7 +95,7 @@ impl Input {
     }
 }
 
-const COMMANDS: &str = "run, trace, first, translate, draw, undraw";
+const COMMANDS: &str = "run, trace, first, translate, draw, undraw, unpack, pack";
 const OPTIONS: &str = "--standing, -o, --to, --svg, --png, --plain, --help";
 
 /// Reads the words, or says what is wrong with them. Options may stand anywhere; after `--` there are none.
@@ -119,7 +124,7 @@ pub fn parse(mut words: impl Iterator<Item = OsString>) -> Result<Asked, String>
     }
     let mut free = free.into_iter();
     let command = match free.next() {
-        None => return Err("which command: run, trace, first, translate, draw or undraw?".to_string()),
+        None => return Err("which command: run, trace, first, translate, draw, undraw, unpack or pack?".to_string()),
         Some(word) if word == "help" => return Ok(Asked::Help),
         Some(word) => command(&word, to, image)?,
     };
@@ -128,11 +133,11 @@ pub fn parse(mut words: impl Iterator<Item = OsString>) -> Result<Asked, String>
     if let Some(word) = free.next() {
         return Err(format!("one {what} at a time: '{}' is one word too many", word.to_string_lossy()));
     }
-    if what != "bundle" && standing.is_some() {
+    if matches!(command, Command::Draw(_) | Command::Undraw) && standing.is_some() {
         return Err(format!("--standing is for bundles; this command reads a {what} alone"));
     }
     if input.is_standard() && standing.as_ref().map_or(false, Input::is_standard) {
-        return Err("only one of bundle and standing table can come from standard input".to_string());
+        return Err(format!("only one of {what} and standing table can come from standard input"));
     }
     let output = output.filter(|word| word != "-").map(PathBuf::from);
     Ok(Asked::Answer(Request { command, input, standing, output, plain }))
@@ -146,6 +151,8 @@ fn command(word: &OsStr, to: Option<Form>, image: Option<Image>) -> Result<Comma
         Some("trace") => Command::Trace,
         Some("draw") => Command::Draw(image),
         Some("undraw") => Command::Undraw,
+        Some("unpack") => Command::Unpack,
+        Some("pack") => Command::Pack,
         _ => {
             let word = word.to_string_lossy();
             return Err(format!("there is no command '{word}'; the commands are {COMMANDS}"));

@@ -1,12 +1,15 @@
-//! The program at the bench: run, translate, first, trace; draw, undraw. Exit status 0 answered, 1 refused, 2 bad use.
+//! The program at the bench: run, translate, first, trace; draw, undraw; unpack, pack. Exit status 0 answered, 1 refused,
+//! 2 bad use.
 #![forbid(unsafe_code)]
 
 mod args;
 mod draw;
 mod files;
 mod graphviz;
+mod marks;
 mod replies;
 mod show;
+mod text;
 mod trace;
 
 use args::{Asked, Command, Request};
@@ -29,10 +32,13 @@ Macaroosh runs a schedule of steps against a threshold table.
                              language
   macaroosh undraw DRAWING   write the table of a drawing, also of an edited
                              one
+  macaroosh unpack FILE      write the bundle as text: its drawing, then a
+                             line for each step
+  macaroosh pack TEXT        write the bundle of a text, also of an edited one
 
 FILE is a bundle: a table, then a schedule. A bundle without a table is read
 beside the standing table. TABLE is a table alone, without a schedule. For
-each of the three '-' is standard input.
+each of the four '-' is standard input.
 
   --to FORM         the form to translate to: message, counting or plain
   --standing FILE   the standing table; without this option the echo table
@@ -74,10 +80,10 @@ fn answer(request: &Request) -> Result<u8, String> {
 fn reply(request: &Request) -> Result<Reply, String> {
     let path = request.output.as_deref();
     let table = |input| files::read(input, &format!("a table has at most {MOST_TABLE}"));
+    let standing = || request.standing.as_ref().map_or(Ok(ECHO.to_vec()), table);
     let ask = |answered: &dyn Fn(&Question) -> Reply| {
         let bundle = files::read(&request.input, &format!("a bundle has at most {MOST_BYTES}"))?;
-        let standing = request.standing.as_ref().map_or(Ok(ECHO.to_vec()), table)?;
-        Ok(answered(&Question { bundle: &bundle, standing: &standing, plain: request.plain }))
+        Ok(answered(&Question { bundle: &bundle, standing: &standing()?, plain: request.plain }))
     };
     match request.command {
         Command::Run => ask(&replies::run),
@@ -88,6 +94,11 @@ fn reply(request: &Request) -> Result<Reply, String> {
         Command::Undraw => {
             let most = format!("a drawing without blanks of its own has at most {MOST_DRAWING}");
             Ok(draw::undraw(&files::read(&request.input, &most)?, path, request.plain))
+        }
+        Command::Unpack => ask(&|question| text::unpack::reply(question, path)),
+        Command::Pack => {
+            let most = format!("a text without comments and blanks of its own has at most {}", text::MOST_TEXT);
+            Ok(text::pack::reply(&files::read(&request.input, &most)?, &standing()?, path, request.plain))
         }
     }
 }

@@ -3,7 +3,7 @@
 use crate::show;
 use macaroosh::library::parts::Parts;
 use macaroosh::terms::refusals::{self, Place};
-use macaroosh::{Form, Refusal, Step, MOST_WORDS};
+use macaroosh::{Answer, Form, Refusal, Step, MOST_WORDS};
 use std::path::Path;
 
 /// A bundle and the table beside it.
@@ -24,6 +24,14 @@ pub struct Reply {
     pub told: Option<String>,
     /// Whether the input was refused.
     pub refused: bool,
+}
+
+impl Reply {
+    /// An output that is no answer for people by itself: they and programs are told on standard error.
+    pub fn of(output: Vec<u8>, answer: Answer, told: String, plain: bool) -> Reply {
+        let told = Some(if plain { show::result(answer) } else { told });
+        Reply { output, told, refused: answer.refused().is_some() }
+    }
 }
 
 impl Question<'_> {

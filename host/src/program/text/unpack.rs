@@ -1,0 +1,58 @@
+//! What `unpack` has to say: the text of a bundle that reading does not refuse.
+
+use super::{wrote, TAGS};
+use crate::replies::{Question, Reply};
+use macaroosh::library::parts::Parts;
+use macaroosh::terms::refusals;
+use macaroosh::{draw, run, Answer, Form, Step, MOST_DRAWING, MOST_WORDS};
+use std::path::Path;
+
+/// The text, which goes to `path`, or the refusal.
+pub fn reply(question: &Question, path: Option<&Path>) -> Reply {
+    let Question { bundle, standing, plain } = *question;
+    let answer = run(bundle, standing, &mut [0; MOST_WORDS]);
+    match Parts::of(bundle, standing) {
+        Some(parts) if answer.left_a_configuration() => {
+            let text = text(&parts);
+            let told = wrote(&text, "the text of a bundle", parts.form, parts.length(), path);
+            let answer = Answer { refusal: 0, place: 0, count: text.len() as u32 };
+            Reply::of(text, answer, told, plain)
+        }
+        _ => {
+            let told = answer.refused().map_or(String::new(), |refusal| refusals::told(refusal) + "\n");
+            Reply::of(Vec::new(), answer, told, plain)
+        }
+    }
+}
+
+fn text(parts: &Parts) -> Vec<u8> {
+    let mut text = drawing(parts.front);
+    let numbers = format!("n {} t {} f {} form {}\n", parts.n, parts.t, parts.f, parts.form.name());
+    text.extend(numbers.bytes());
+    let starts: String = parts.starts.iter().map(|state| format!(" {state}")).collect();
+    text.extend(format!("start{starts}\n").bytes());
+    text.extend(parts.steps().flat_map(|step| line(parts.form, step).into_bytes()));
+    text
+}
+
+// Nothing for no table.
+fn drawing(front: &[u8]) -> Vec<u8> {
+    let mut drawing = vec![0; MOST_DRAWING];
+    let answer = draw(front, &mut drawing);
+    drawing.truncate(answer.count as usize);
+    drawing
+}
+
+fn line(form: Form, step: Step) -> String {
+    let Step { board, rule, kind, source } = step;
+    let message = if step.silent() { String::new() } else { format!(" type {kind}{}", from(form, source)) };
+    format!("board {board} rule {rule}{message}\n")
+}
+
+fn from(form: Form, source: u8) -> String {
+    match (form, TAGS.get(usize::from(source))) {
+        (Form::Plain, _) if source == 0 => String::new(),
+        (Form::Counting, Some(tag)) => format!(" from {tag}"),
+        _ => format!(" from {source}"),
+    }
+}
