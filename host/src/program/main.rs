@@ -5,6 +5,7 @@ mod args;
 mod draw;
 mod files;
 mod graphviz;
+mod picture;
 mod replies;
 mod show;
 mod trace;
