@@ -1,12 +1,13 @@
 //! What `draw` and `undraw` have to say.
 
 use crate::args::Image;
-use crate::graphviz::{self, Layout};
+use crate::graphviz;
 use crate::marks;
+use crate::picture;
 use crate::replies::Reply;
 use crate::show;
 use macaroosh::terms::refusals::{self, Place};
-use macaroosh::{Refusal, MOST_DRAWING, MOST_TABLE};
+use macaroosh::{Answer, Refusal, MOST_DRAWING, MOST_TABLE};
 use std::path::Path;
 
 /// The drawing of a table, or an image of it, which goes to `path`; or why Graphviz gave no image.
@@ -15,9 +16,11 @@ pub fn draw(table: &[u8], image: Option<Image>, path: Option<&Path>, plain: bool
     let answer = macaroosh::draw(table, &mut drawing);
     drawing.truncate(answer.count as usize);
     let (output, thing) = match image {
-        Some(image) if answer.refusal == 0 => (graphviz::image(&drawing, &layout(table), image)?, "an image"),
+        Some(image) if answer.refusal == 0 => (graphviz::image(&picture::text(table), image)?, "an image"),
         _ => (drawing, "a drawing"),
     };
+    // What is told is the length of what is written, so of an image its own.
+    let answer = Answer { count: output.len() as u32, ..answer };
     let told = match answer.refused() {
         Some(refusal) => refusals::told(refusal) + "\n",
         None => wrote(&output, thing, table, path),
@@ -38,25 +41,9 @@ pub fn undraw(text: &[u8], path: Option<&Path>, plain: bool) -> Reply {
 }
 
 fn wrote(output: &[u8], thing: &str, table: &[u8], path: Option<&Path>) -> String {
-    let [states, rules, ..] = numbers(table);
+    let [states, rules, ..] = picture::numbers(table);
     let (bytes, to) = (show::counted(output.len(), "byte"), show::to(path));
     format!("wrote {bytes}{to}: {thing} of {} and {}\n", show::counted(states, "state"), show::counted(rules, "rule"))
-}
-
-// The caption tells T and k, for which an image has no place, and what the labels mean. Labels of many types between many
-// states would make it far too wide, so it goes down then.
-fn layout(table: &[u8]) -> Layout {
-    let [states, _, types, factor] = numbers(table);
-    Layout {
-        caption: format!("T = {types}, k = {factor}. A state: flags, sent mask. A rule: a b d for each type."),
-        across: states * types <= 12,
-    }
-}
-
-// States, rules, T and k of a table that the library has accepted.
-fn numbers(table: &[u8]) -> [usize; 4] {
-    let last = table.len().saturating_sub(4);
-    [0, 1, 2, 3].map(|i| table.get(last + i).map_or(0, |&number| usize::from(number)))
 }
 
 /// The refusal in words, and what it names in the text: its line, with a mark under the byte.

@@ -7,6 +7,7 @@ mod draw;
 mod files;
 mod graphviz;
 mod marks;
+mod picture;
 mod replies;
 mod show;
 mod text;
