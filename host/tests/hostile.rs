@@ -1,5 +1,5 @@
-//! What must hold where folders, files and inputs are against it: files that may not be
-//! written, streams, links and signals in the middle of a write, names that write to a terminal, damaged inputs.
+//! What must hold where folders, files and inputs are against it: the script in a folder with settings for cargo, files that
+//! may not be written, streams, links and signals in the middle of a write, names that write to a terminal, damaged inputs.
 
 use macaroosh::dice::{each_seed, seeds, Dice};
 use macaroosh::makers::{bundles, sketches};
@@ -75,6 +75,201 @@ fn mistake(got: &Output, told: &str) {
 
 const RAN: &str = "result 0 0 5\np 0 2 0 0\np 1 2 0 0\np 2 3 2 1\nsent 3\n";
 const LEFT: &str = "result 24 4 4\np 0 2 0 0\np 1 2 0 0\np 2 2 1 1\nsent 3\n";
+
+mod script {
+    use super::*;
+
+    // A checkout in small: the real scripts around a program that shows its folder and its words and ends with status 1.
+    fn checkout(at: PathBuf) -> PathBuf {
+        let at = emptied(at);
+        for folder in ["tools", "crates/capi/src", "host/src", "target/staticlib"] {
+            fs::create_dir_all(at.join(folder)).expect("a folder");
+        }
+        for file in ["macaroosh", "tools/cargo", "tools/setup", "crates.txt"] {
+            fs::copy(root().join(file), at.join(file)).expect("a copy");
+        }
+        let files = [
+            (
+                "host/Cargo.toml",
+                "[package]\nname = \"macaroosh\"\nversion = \"0.1.0\"\nedition = \"2021\"\n\n[workspace]\n",
+            ),
+            ("host/Cargo.lock", "version = 3\n\n[[package]]\nname = \"macaroosh\"\nversion = \"0.1.0\"\n"),
+            ("host/build.rs", "fn main() {}\n"),
+            ("host/src/main.rs", MAIN),
+            ("crates/capi/src/lib.rt", ""),
+            ("target/staticlib/libcapi.a", ""),
+        ];
+        for (file, text) in files {
+            fs::write(at.join(file), text).expect("a file");
+        }
+        at
+    }
+
+    const MAIN: &str = "\
+fn main() {
+    print!(\"{:?}\", std::env::current_dir().unwrap());
+    std::env::args_os().skip(1).for_each(|word| print!(\" {word:?}\"));
+    std::process::exit(1);
+}
+";
+
+    // A program of a test.
+    fn stub(path: &Path, script: &str) {
+        fs::create_dir_all(path.parent().expect("a folder")).expect("a folder");
+        fs::write(path, format!("#!/bin/sh\n{script}\n")).expect("a script");
+        fs::set_permissions(path, Permissions::from_mode(0o755)).expect("its mode");
+    }
+
+    // A folder whose settings have cargo start a program that leaves a trace.
+    fn trap(at: &Path) -> PathBuf {
+        let (wrapper, trace) = (at.join("wrapper"), at.join("was-here"));
+        stub(&wrapper, &format!("touch '{}'; exec \"$@\"", trace.display()));
+        fs::create_dir_all(at.join(".cargo")).expect("a folder");
+        let settings = format!("[build]\nrustc-wrapper = '{}'\n", wrapper.display());
+        fs::write(at.join(".cargo/config.toml"), settings).expect("settings");
+        trace
+    }
+
+    // Only the commands that the script itself needs, and the stubs of a test, which may not be among them.
+    fn only(room: &Path, stubs: &[(&str, &str)]) -> PathBuf {
+        let bin = emptied(room.join("bin"));
+        let needed =
+            ["bash", "dirname", "readlink", "find", "mktemp", "rm", "awk", "tee", "touch", "date", "mkdir", "cp"];
+        for name in needed {
+            let found = Command::new("sh").args(["-c", "command -v \"$0\"", name]).output().expect("a shell").stdout;
+            symlink(text(&found).trim_end(), bin.join(name)).expect("a link");
+        }
+        // Elsewhere the script would ask for a cargo of a fixed path.
+        stub(&bin.join("uname"), "echo x86_64");
+        for (name, script) in stubs {
+            stub(&bin.join(name), script);
+        }
+        bin
+    }
+
+    fn start(checkout: &Path, path: Option<&Path>) -> Command {
+        let mut command = match path {
+            None => Command::new(checkout.join("macaroosh")),
+            Some(path) => {
+                let mut command = Command::new("/usr/bin/env");
+                command.arg(format!("PATH={}", path.display())).arg(path.join("bash")).arg(checkout.join("macaroosh"));
+                command
+            }
+        };
+        command.stdin(Stdio::null());
+        command
+    }
+
+    // Status 2, and one sentence that says why.
+    #[track_caller]
+    fn fails(got: &Output, told: &str) {
+        mistake(got, told);
+        assert_eq!(text(&got.stderr).lines().count(), 1, "{}", text(&got.stderr));
+        assert!(text(&got.stderr).starts_with("macaroosh: "), "{}", text(&got.stderr));
+        // What was said is kept in a file, which is not needed here.
+        if let Some((_, said)) = text(&got.stderr).trim_end().split_once(" said is in ") {
+            fs::remove_file(said).expect("what was said");
+        }
+    }
+
+    #[test]
+    fn settings_of_the_callers_folder_are_not_obeyed() {
+        let room = room("settings");
+        let trace = trap(&room);
+        // The checkout is below that folder too.
+        let checkout = checkout(room.join("checkout"));
+        for from in [room.clone(), emptied(room.join("inner")), room.join("checkout/host")] {
+            let got = start(&checkout, None).current_dir(&from).args(["run", "a b", ""]).output().expect("the script");
+            let from = fs::canonicalize(&from).expect("a folder");
+            let shown = format!("{from:?} \"run\" \"a b\" \"\"");
+            assert_eq!((got.status.code(), text(&got.stdout), text(&got.stderr)), (Some(1), &*shown, ""));
+            assert!(!trace.exists(), "a program of the caller's folder was started");
+        }
+        let mut cargo = Command::new(checkout.join("tools/cargo"));
+        cargo.args(["build", "--release", "--target-dir"]).arg(room.join("other")).current_dir(&room);
+        assert_eq!(cargo.output().expect("the script").status.code(), Some(0));
+        assert!(!trace.exists(), "a program of the caller's folder was started");
+    }
+
+    // The place of the program in a checkout that thinks it is on x86-64.
+    fn program_of(checkout: &Path) -> PathBuf {
+        checkout.join("host/target/release/macaroosh")
+    }
+
+    // As cargo would, at its place.
+    fn built(checkout: &Path) {
+        stub(&program_of(checkout), "echo \"$@\"");
+    }
+
+    #[test]
+    fn once_it_is_built_nothing_else_is_needed() {
+        let room = room("once-built");
+        let checkout = checkout(room.join("checkout"));
+        built(&checkout);
+        let none = only(&room, &[]);
+        let got = start(&checkout, Some(&none)).arg("words").output().expect("the script");
+        assert_eq!((got.status.code(), text(&got.stdout), text(&got.stderr)), (Some(0), "words\n", ""));
+        // A source that is newer is built.
+        let source = checkout.join("host/src/main.rs");
+        while fs::metadata(&source).expect("a file").modified().ok()
+            <= fs::metadata(program_of(&checkout)).expect("a file").modified().ok()
+        {
+            fs::write(&source, "edited").expect("a file");
+        }
+        let build = format!("echo '#!/bin/sh\necho new' >'{}'", program_of(&checkout).display());
+        let stubs = only(&room, &[("cargo", &build), ("gcc", "")]);
+        for _ in 0..2 {
+            let got = start(&checkout, Some(&stubs)).output().expect("the script");
+            assert_eq!((got.status.code(), text(&got.stdout), text(&got.stderr)), (Some(0), "new\n", ""));
+        }
+    }
+
+    #[test]
+    fn elsewhere_the_emulator_starts_it() {
+        let room = room("emulated");
+        let checkout = checkout(room.join("checkout"));
+        stub(&checkout.join("host/target/x86_64-unknown-linux-gnu/release/macaroosh"), "echo \"$@\"");
+        let (arm, emulator) = (("uname", "echo aarch64"), ("qemu-x86_64", "echo emulated; exec \"$@\""));
+        let got = start(&checkout, Some(&only(&room, &[arm, emulator]))).arg("words").output().expect("the script");
+        assert_eq!((got.status.code(), text(&got.stdout), text(&got.stderr)), (Some(0), "emulated\nwords\n", ""));
+        let got = start(&checkout, Some(&only(&room, &[arm]))).arg("words").output().expect("the script");
+        fails(&got, "this machine needs 'qemu-x86_64' to run the program");
+    }
+
+    #[test]
+    fn a_checkout_of_another_user_works_once_it_is_built() {
+        let room = emptied(std::env::temp_dir().join(format!("macaroosh-hostile-{}", std::process::id())));
+        fs::set_permissions(&room, Permissions::from_mode(0o755)).expect("its mode");
+        let checkout = checkout(room.join("checkout"));
+        built(&checkout);
+        if let Some(mut command) = as_nobody(Path::new("/usr/bin/env")) {
+            let path = only(&room, &[("cargo", "exit 9"), ("gcc", "")]);
+            command.arg(format!("PATH={}", path.display())).arg(checkout.join("macaroosh")).arg("words");
+            let got = command.output().expect("the script");
+            assert_eq!((got.status.code(), text(&got.stdout), text(&got.stderr)), (Some(0), "words\n", ""));
+        }
+        fs::remove_dir_all(&room).expect("removed");
+    }
+
+    #[test]
+    fn what_fails_before_the_program_is_told_in_a_sentence() {
+        let room = room("fails");
+        let checkout = checkout(room.join("checkout"));
+        let start = |stubs: &[(&str, &str)]| {
+            start(&checkout, Some(&only(&room, stubs))).args(["run", "x"]).output().expect("the script")
+        };
+        fails(
+            &start(&[("apt-get", "echo no network; exit 100")]),
+            "the program could not be built; what cargo said is in ",
+        );
+        fails(&start(&[("cargo", "echo error; exit 101"), ("gcc", "")]), "the program could not be built");
+        // Cargo says that it is done, and nothing is there.
+        fails(&start(&[("cargo", ""), ("gcc", "")]), "release/macaroosh' is not there or cannot be started");
+        fs::remove_file(checkout.join("target/staticlib/libcapi.a")).expect("removed");
+        fails(&start(&[]), "its command 'rt' is not found");
+        fails(&start(&[("rt", "echo 'no proof'; exit 1")]), "the library could not be proved; what rt said is in ");
+    }
+}
 
 // A command as the user nobody, where this is root and there is a way.
 fn as_nobody(first: &Path) -> Option<Command> {
