@@ -1,5 +1,5 @@
-//! The archive's C calls, and the only unsafe code: a slice passes as a pointer and a length in elements. `tests/header.rs` holds
-//! these declarations to the C header.
+//! The archive's C calls, and the library's only unsafe code: a slice passes as a pointer and a length in elements.
+//! `tests/header.rs` holds these declarations to the C header.
 #![allow(unsafe_code)]
 
 mod capi {

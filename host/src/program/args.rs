@@ -1,5 +1,7 @@
 //! The words after the program's name.
 
+use crate::names::shown;
+use crate::words::Words;
 use macaroosh::Form;
 use std::ffi::{OsStr, OsString};
 use std::path::PathBuf;
@@ -9,6 +11,8 @@ use std::path::PathBuf;
 pub enum Asked {
     /// The usage.
     Help,
+    /// The version.
+    Version,
     /// There were no words.
     Nothing,
     /// An answer.
@@ -26,6 +30,8 @@ pub struct Request {
     pub standing: Option<Input>,
     /// Where the output is written, if not to standard output (`-`).
     pub output: Option<PathBuf>,
+    /// Whether what a refused schedule left goes there too, and not to standard output.
+    pub partial: bool,
     /// Whether the answer is for programs.
     pub plain: bool,
 }
@@ -60,6 +66,11 @@ impl Command {
             Command::Pack => "text",
             _ => "bundle",
         }
+    }
+
+    /// Whether its output is bytes that are no text.
+    pub fn writes_bytes(self) -> bool {
+        matches!(self, Command::Translate(_) | Command::Undraw | Command::Pack | Command::Draw(Some(Image::Png)))
     }
 }
 
@@ -96,27 +107,30 @@ impl Input {
 }
 
 const COMMANDS: &str = "run, trace, first, translate, draw, undraw, unpack, pack";
-const OPTIONS: &str = "--standing, -o, --to, --svg, --png, --plain, --help";
+const OPTIONS: &str = "--standing, -o, --to, --svg, --png, --plain, --partial, --help, --version";
 
 /// Reads the words, or says what is wrong with them. Options may stand anywhere; after `--` there are none.
-pub fn parse(mut words: impl Iterator<Item = OsString>) -> Result<Asked, String> {
+pub fn parse(words: impl Iterator<Item = OsString>) -> Result<Asked, String> {
+    let mut words = Words::of(words);
     let mut free: Vec<OsString> = Vec::new();
     let (mut standing, mut output, mut to, mut image) = (None, None, None, None);
-    let (mut plain, mut options_end, mut any) = (false, false, false);
-    while let Some(word) = words.next() {
+    let (mut plain, mut partial, mut options_end, mut any) = (false, false, false, false);
+    while let Some(word) = words.next()? {
         any = true;
         // A word that is no text is no option, so it is taken as it is.
         match word.to_str().unwrap_or("") {
             text if options_end || !text.starts_with('-') || text == "-" => free.push(word),
             "--" => options_end = true,
             "--help" | "-h" => return Ok(Asked::Help),
+            "--version" => return Ok(Asked::Version),
             "--plain" => plain = true,
-            "--standing" => once(&mut standing, Input::of(value(&mut words, "--standing", "file")?), "--standing")?,
-            "-o" => once(&mut output, value(&mut words, "-o", "file")?, "-o")?,
-            "--to" => once(&mut to, form(&value(&mut words, "--to", "form")?)?, "--to")?,
+            "--partial" => partial = true,
+            "--standing" => once(&mut standing, Input::of(words.value("--standing", "file")?), "--standing")?,
+            "-o" => once(&mut output, words.value("-o", "file")?, "-o")?,
+            "--to" => once(&mut to, form(&words.value("--to", "form")?)?, "--to")?,
             "--svg" => once(&mut image, Image::Svg, "--svg or --png")?,
             "--png" => once(&mut image, Image::Png, "--svg or --png")?,
-            text => return Err(format!("there is no option '{text}'; the options are {OPTIONS}")),
+            _ => return Err(format!("there is no option '{}'; the options are {OPTIONS}", shown(&word))),
         }
     }
     if !any {
@@ -131,7 +145,10 @@ pub fn parse(mut words: impl Iterator<Item = OsString>) -> Result<Asked, String>
     let what = command.reads();
     let input = Input::of(free.next().ok_or(format!("which {what}? Name a file, or '-' for standard input"))?);
     if let Some(word) = free.next() {
-        return Err(format!("one {what} at a time: '{}' is one word too many", word.to_string_lossy()));
+        return Err(format!("one {what} at a time: '{}' is one word too many", shown(&word)));
+    }
+    if partial && !matches!(command, Command::Run | Command::Trace) {
+        return Err("--partial is for run and trace alone".to_string());
     }
     if matches!(command, Command::Draw(_) | Command::Undraw) && standing.is_some() {
         return Err(format!("--standing is for bundles; this command reads a {what} alone"));
@@ -140,7 +157,7 @@ pub fn parse(mut words: impl Iterator<Item = OsString>) -> Result<Asked, String>
         return Err(format!("only one of {what} and standing table can come from standard input"));
     }
     let output = output.filter(|word| word != "-").map(PathBuf::from);
-    Ok(Asked::Answer(Request { command, input, standing, output, plain }))
+    Ok(Asked::Answer(Request { command, input, standing, output, partial, plain }))
 }
 
 fn command(word: &OsStr, to: Option<Form>, image: Option<Image>) -> Result<Command, String> {
@@ -154,7 +171,7 @@ fn command(word: &OsStr, to: Option<Form>, image: Option<Image>) -> Result<Comma
         Some("unpack") => Command::Unpack,
         Some("pack") => Command::Pack,
         _ => {
-            let word = word.to_string_lossy();
+            let word = shown(word);
             return Err(format!("there is no command '{word}'; the commands are {COMMANDS}"));
         }
     };
@@ -171,13 +188,8 @@ fn command(word: &OsStr, to: Option<Form>, image: Option<Image>) -> Result<Comma
 fn form(word: &OsStr) -> Result<Form, String> {
     word.to_str().and_then(Form::named).ok_or_else(|| {
         let forms = Form::ALL.map(Form::name).join(", ");
-        format!("there is no form '{}'; the forms are {forms}", word.to_string_lossy())
+        format!("there is no form '{}'; the forms are {forms}", shown(word))
     })
-}
-
-// The word after an option, which says what it is.
-fn value(words: &mut impl Iterator<Item = OsString>, option: &str, what: &str) -> Result<OsString, String> {
-    words.next().ok_or(format!("{option} needs a {what} after it"))
 }
 
 fn once<T>(slot: &mut Option<T>, value: T, option: &str) -> Result<(), String> {

@@ -1,17 +1,22 @@
 //! The program at the bench: run, translate, first, trace; draw, undraw; unpack, pack. Exit status 0 answered, 1 refused,
 //! 2 bad use.
-#![forbid(unsafe_code)]
+#![deny(unsafe_code)]
 
 mod args;
 mod draw;
 mod files;
 mod graphviz;
+mod guard;
 mod marks;
+mod names;
+mod output;
 mod picture;
 mod replies;
 mod show;
+mod system;
 mod text;
 mod trace;
+mod words;
 
 use args::{Asked, Command, Request};
 use macaroosh::{ECHO, MOST_BYTES, MOST_DRAWING, MOST_TABLE};
@@ -46,22 +51,31 @@ each of the four '-' is standard input.
   --svg, --png      draw an image of the table; needs Graphviz's program dot
   -o FILE           write the output there; a file of that name stays as it
                     was until the new one is whole
+  --partial         with run or trace: write there too what a schedule left
+                    that is refused at a step; without it a refused input
+                    leaves the file as it was
   --plain           the same answer in numbers, for programs
   --help            this page
+  --version         the version
+
+A value may follow its option after '=' too: --to=plain.
 
 Exit status: 0 answered; 1 the input is refused, and its number, place and
-reason are on standard error; 2 bad use.
+reason are on standard error; 2 bad use, or a file cannot be read or written.
 Try: macaroosh trace examples/w.bundle
      macaroosh draw examples/echo.table
 ";
 
+const VERSION: &str = concat!("macaroosh ", env!("CARGO_PKG_VERSION"), "\n");
+
 fn main() -> ExitCode {
-    let status = match args::parse(std::env::args_os().skip(1)) {
+    let status = guard::guarded(|| match args::parse(std::env::args_os().skip(1)) {
         Ok(Asked::Help) => files::write(None, USAGE.as_bytes()).map(|()| 0),
+        Ok(Asked::Version) => files::write(None, VERSION.as_bytes()).map(|()| 0),
         Ok(Asked::Nothing) => Err(USAGE.to_string()),
         Ok(Asked::Answer(request)) => answer(&request),
         Err(mistake) => Err(format!("macaroosh: {mistake}\nTry 'macaroosh --help'.\n")),
-    };
+    });
     ExitCode::from(status.unwrap_or_else(|mistake| {
         tell(&mistake);
         2
@@ -70,12 +84,24 @@ fn main() -> ExitCode {
 
 // Answers a request: its exit status, or what is wrong with its files.
 fn answer(request: &Request) -> Result<u8, String> {
+    if request.output.is_none() && request.command.writes_bytes() && system::output_is_terminal() {
+        return Err("macaroosh: the output is bytes and no text for a terminal; give -o FILE\n".to_string());
+    }
     let reply = reply(request)?;
-    files::write(request.output.as_deref(), &reply.output)?;
+    write(request, &reply)?;
     if let Some(told) = reply.told {
         tell(&told);
     }
     Ok(u8::from(reply.refused))
+}
+
+// A refused input leaves an existing file as it was: what it has to show is for standard output, unless that is asked for.
+fn write(request: &Request, reply: &Reply) -> Result<(), String> {
+    let path = request.output.as_deref();
+    match path.filter(|_| request.partial || !reply.refused) {
+        None if path.is_some() && reply.output.is_empty() => Ok(()),
+        to => files::write(to, &reply.output),
+    }
 }
 
 fn reply(request: &Request) -> Result<Reply, String> {

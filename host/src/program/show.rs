@@ -1,5 +1,6 @@
 //! Answers as people read them, and as programs do.
 
+use crate::names::shown;
 use macaroosh::library::parts::{Parts, Picture};
 use macaroosh::{Answer, First, Form, Refusal, Step};
 use std::path::Path;
@@ -128,7 +129,7 @@ pub fn sum(counts: &[u32]) -> String {
 
 /// Where an output went, if it is a file.
 pub fn to(path: Option<&Path>) -> String {
-    path.map_or(String::new(), |path| format!(" to {}", path.display()))
+    path.map_or(String::new(), |path| format!(" to {}", shown(path.as_os_str())))
 }
 
 /// A number of things: `1 step`, `5 steps`.
