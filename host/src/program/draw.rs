@@ -2,14 +2,42 @@
 
 use crate::args::Image;
 use crate::graphviz::{self, Layout};
-use crate::replies::Reply;
-use crate::show;
+use crate::replies::{self, Reply};
+use crate::{show, why};
+use macaroosh::library::parts::front;
 use macaroosh::terms::refusals::{self, Place};
-use macaroosh::{Answer, Refusal, MOST_DRAWING, MOST_TABLE};
+use macaroosh::{run, Answer, Refusal, ECHO, MOST_DRAWING, MOST_TABLE};
 use std::path::Path;
 
 /// The drawing of a table, or an image of it, which goes to `path`; or why Graphviz gave no image.
 pub fn draw(table: &[u8], image: Option<Image>, path: Option<&Path>, plain: bool) -> Result<Reply, String> {
+    let why = |refusal| why::of_table(table, refusal);
+    drawn(table, image, path, plain, &why)
+}
+
+/// The same of the table that a bundle has in front; or that it has none.
+pub fn draw_of(bundle: &[u8], image: Option<Image>, path: Option<&Path>, plain: bool) -> Result<Reply, String> {
+    let why = |refusal| why::of_bundle(bundle, &ECHO, refusal);
+    match front(bundle) {
+        Some(table) if !table.is_empty() => drawn(table, image, path, plain, &why),
+        Some(_) => Err("macaroosh: this bundle has no table of its own; it is read beside a standing table\n".into()),
+        // Its trailer does not fit it, so it is refused before any table is looked at.
+        None => {
+            let answer = run(bundle, &ECHO, &mut []);
+            let told = answer.refused().map_or(String::new(), |refusal| replies::told(refusal, why(refusal)));
+            Ok(reply(Vec::new(), answer, told, plain))
+        }
+    }
+}
+
+// A table's drawing or image, and for people the lines that explain a refusal.
+fn drawn(
+    table: &[u8],
+    image: Option<Image>,
+    path: Option<&Path>,
+    plain: bool,
+    why: &dyn Fn(Refusal) -> Vec<String>,
+) -> Result<Reply, String> {
     let mut drawing = vec![0; MOST_DRAWING];
     let answer = macaroosh::draw(table, &mut drawing);
     drawing.truncate(answer.count as usize);
@@ -18,7 +46,7 @@ pub fn draw(table: &[u8], image: Option<Image>, path: Option<&Path>, plain: bool
         _ => (drawing, "a drawing"),
     };
     let told = match answer.refused() {
-        Some(refusal) => refusals::told(refusal) + "\n",
+        Some(refusal) => replies::told(refusal, why(refusal)),
         None => wrote(&output, thing, table, path),
     };
     Ok(reply(output, answer, told, plain))
@@ -30,7 +58,7 @@ pub fn undraw(text: &[u8], path: Option<&Path>, plain: bool) -> Reply {
     let answer = macaroosh::undraw(text, &mut table);
     table.truncate(answer.count as usize);
     let told = match answer.refused() {
-        Some(refusal) => refused(text, refusal),
+        Some(refusal) => refused(text, refusal) + &why::of_drawing(text).map_or(String::new(), |line| line + "\n"),
         None => wrote(&table, "a table", &table, path),
     };
     reply(table, answer, told, plain)

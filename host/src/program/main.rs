@@ -1,17 +1,23 @@
 //! The program at the bench: run, translate, first, trace; draw, undraw. Exit status 0 answered, 1 refused, 2 bad use.
 #![forbid(unsafe_code)]
 
+mod all;
 mod args;
 mod draw;
 mod files;
 mod graphviz;
+mod json;
+mod kinds;
+mod part;
 mod replies;
 mod show;
 mod trace;
+mod why;
 
 use args::{Asked, Command, Request};
 use macaroosh::{ECHO, MOST_BYTES, MOST_DRAWING, MOST_TABLE};
 use replies::{Question, Reply};
+use show::Style;
 use std::io::Write;
 use std::process::ExitCode;
 
@@ -35,11 +41,16 @@ beside the standing table. TABLE is a table alone, without a schedule. For
 each of the three '-' is standard input.
 
   --to FORM         the form to translate to: message, counting or plain
+  --from I, --to J  trace steps I to J alone
+  --board P         trace the steps of board P alone
+  --all             list every possible step, the first one first
+  --of              draw the table that a bundle has in front
   --standing FILE   the standing table; without this option the echo table
   --svg, --png      draw an image of the table; needs Graphviz's program dot
   -o FILE           write the output there; a file of that name stays as it
                     was until the new one is whole
   --plain           the same answer in numbers, for programs
+  --json            the same answer of run, trace or first as a JSON object
   --help            this page
 
 Exit status: 0 answered; 1 the input is refused, and its number, place and
@@ -74,20 +85,24 @@ fn answer(request: &Request) -> Result<u8, String> {
 fn reply(request: &Request) -> Result<Reply, String> {
     let path = request.output.as_deref();
     let table = |input| files::read(input, &format!("a table has at most {MOST_TABLE}"));
-    let ask = |answered: &dyn Fn(&Question) -> Reply| {
-        let bundle = files::read(&request.input, &format!("a bundle has at most {MOST_BYTES}"))?;
+    let bundle = |input| files::read(input, &format!("a bundle has at most {MOST_BYTES}"));
+    let plain = request.style == Style::Plain;
+    let ask = |answered: &dyn Fn(&Question) -> Result<Reply, String>| {
+        let bundle = bundle(&request.input)?;
         let standing = request.standing.as_ref().map_or(Ok(ECHO.to_vec()), table)?;
-        Ok(answered(&Question { bundle: &bundle, standing: &standing, plain: request.plain }))
+        answered(&Question { bundle: &bundle, standing: &standing, style: request.style })
     };
     match request.command {
-        Command::Run => ask(&replies::run),
-        Command::Translate(to) => ask(&|question| replies::translate(question, to, path)),
-        Command::First => ask(&replies::first),
-        Command::Trace => ask(&trace::reply),
-        Command::Draw(image) => draw::draw(&table(&request.input)?, image, path, request.plain),
+        Command::Run => ask(&|question| Ok(replies::run(question))),
+        Command::Translate(to) => ask(&|question| Ok(replies::translate(question, to, path))),
+        Command::First => ask(&|question| Ok(replies::first(question))),
+        Command::All => ask(&replies::all),
+        Command::Trace(part) => ask(&|question| Ok(trace::reply(question, part))),
+        Command::Draw(image) => draw::draw(&table(&request.input)?, image, path, plain),
+        Command::DrawOf(image) => draw::draw_of(&bundle(&request.input)?, image, path, plain),
         Command::Undraw => {
             let most = format!("a drawing without blanks of its own has at most {MOST_DRAWING}");
-            Ok(draw::undraw(&files::read(&request.input, &most)?, path, request.plain))
+            Ok(draw::undraw(&files::read(&request.input, &most)?, path, plain))
         }
     }
 }
