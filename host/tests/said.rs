@@ -311,6 +311,26 @@ rule 5 asks for 3 of type 0 (n - t), board 1 has 0
 }
 
 #[test]
+fn distances_are_told_as_they_are_and_as_they_would_have_to_be() {
+    let mut w = example("w.bundle");
+    w[23] = 24;
+    let told = "\
+refused 13: the step distance is no multiple of 4 or over 16,384, or the second distance is not that plus n - f
+its trailer says that steps begin 24 bytes before it and starts 23
+with 3 starts it would have to say 24 and 27 (6 steps) or 20 and 23 (5 steps)
+";
+    assert_eq!(text(&asked(&["run", "-"], &w).stderr), told);
+    let mut table = ECHO;
+    table[43] = 42;
+    let told = "\
+refused 3: the table's distances disagree with its counts or its length
+its trailer says that states begin 42 bytes before it and rules 35, and 43 are before it
+4 states of 2 bytes and 7 rules of 5 make that 43, 35 and 43
+";
+    assert_eq!(text(&asked(&["draw", "-"], &table).stderr), told);
+}
+
+#[test]
 fn a_refused_schedule_is_told_with_its_figures() {
     let mut seen = BTreeMap::new();
     for seed in 1..=3_000 {
@@ -347,22 +367,15 @@ fn a_refused_schedule_is_told_with_its_figures() {
     assert!((11..=14).all(|number| seen.get(&number) >= Some(&5)), "{seen:?}");
 }
 
-// What is said to be asked for is allowed, and changes one of the two distances only; or there is no such pair.
+// What is said to be asked for is each pair that is allowed and keeps one of the two distances; or there is none.
 fn can_be_distances(line: &str, found: [usize; 2], correct: usize) {
     let allowed = |[steps, starts]: [usize; 2]| steps % 4 == 0 && steps <= 16_384 && starts == steps + correct;
     assert!(!allowed(found));
-    match numbers(line)[..] {
-        [starts, steps, four, first, second] => {
-            assert_eq!((starts, four, 4 * steps), (correct, 4, first), "{line}");
-            assert!(allowed([first, second]), "{line}");
-            assert!(first == found[0] || second == found[1], "{line}");
-        }
-        _ => {
-            assert_eq!(numbers(line), [correct], "{line}");
-            assert!(!allowed([found[0], found[0] + correct]));
-            assert!(found[1] < correct || !allowed([found[1] - correct, found[1]]));
-        }
-    }
+    let by_first = [found[0], found[0] + correct];
+    let by_second = [found[1].wrapping_sub(correct), found[1]];
+    let pairs = [by_first, by_second].into_iter().filter(|&pair| allowed(pair));
+    let said: Vec<usize> = pairs.flat_map(|[first, second]| [first, second, first / 4]).collect();
+    assert_eq!(numbers(line), [vec![correct], said].concat(), "{line}");
 }
 
 #[test]

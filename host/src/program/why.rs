@@ -110,18 +110,16 @@ fn of_schedule(bundle: &[u8], standing: &[u8], refusal: Refusal) -> Vec<String> 
     }
 }
 
-// What the trailer would have to say: by its first distance where that can be one, or else by its second.
+// What the trailer would have to say: with its first distance where that can be one, or with its second.
 fn distances_asked_for(steps: usize, starts: usize, correct: usize) -> String {
     let can_be = |steps: &usize| steps % 4 == 0 && *steps <= 16_384;
-    let steps = Some(steps).filter(can_be).or_else(|| starts.checked_sub(correct).filter(can_be));
-    match steps {
-        Some(steps) => format!(
-            "with {} and {} of 4 bytes it would have to say {steps} and {}",
-            counted(correct, "start"),
-            counted(steps / 4, "step"),
-            steps + correct
-        ),
-        None => format!("with {} no number of steps fits either of them", counted(correct, "start")),
+    let either = [Some(steps), starts.checked_sub(correct)].into_iter().flatten().filter(can_be);
+    let pairs: Vec<String> =
+        either.map(|steps| format!("{steps} and {} ({})", steps + correct, counted(steps / 4, "step"))).collect();
+    let with = counted(correct, "start");
+    match &pairs[..] {
+        [] => format!("with {with} no number of steps fits either of them"),
+        pairs => format!("with {with} it would have to say {}", pairs.join(" or ")),
     }
 }
 
