@@ -41,4 +41,4 @@ pub use library::{draw, first_step, run, translate, translate_to, undraw, Librar
 pub use terms::answer::{Answer, Bench, Draws, First, Refusal, Step};
 pub use terms::echo::ECHO;
 pub use terms::form::Form;
-pub use terms::sizes::{MOST_BYTES, MOST_DRAWING, MOST_TABLE, MOST_WORDS};
+pub use terms::sizes::{MOST_BYTES, MOST_DRAWING, MOST_STEPS, MOST_TABLE, MOST_WORDS};

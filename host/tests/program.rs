@@ -67,6 +67,7 @@ fn says(words: &[&str], bundle: &str, status: i32, output: &str, error: &str) {
 const TWICE: &str = "\
 refused 24 at step 4: the message is not in transit
 that step is board 2, rule 5, type 0, source 0
+board 2 has heard type 0 from board 0 already, in step 2
 ";
 
 #[test]
@@ -413,7 +414,7 @@ const COUNTS: &str =
 #[test]
 fn a_table_that_is_none_is_not_drawn() {
     for words in [&["draw"][..], &["draw", "--svg"], &["draw", "--png"]] {
-        says(words, "w.bundle", 1, "", COUNTS);
+        says(words, "w.bundle", 1, "", &format!("{COUNTS}this is a bundle, and without a table of its own\n"));
     }
     says(&["draw", "--plain"], "w.bundle", 1, "", "result 2 0 0\n");
     let got = asked_with_input(&["draw", "-"], b"");
@@ -499,6 +500,7 @@ board  state  has type 0
     let told = "\
 refused 25 at step 0: a threshold is not met
 that step is board 0, rule 1, type 0, source 3
+rule 1 asks for 2 of type 0 (t + 1), board 0 has 1, this one included
 ";
     says(&["run"], "one-echo.bundle", 1, shown, told);
     let shown = "\
@@ -559,10 +561,10 @@ fn wrong_words_are_told() {
     mistake(&["draw", "x", "--svg", "--png"], "--svg or --png is given twice");
     mistake(&["translate", "x", "--to", "2"], "there is no form '2'; the forms are message, counting, plain");
     mistake(&["translate", "x", "--to", "Plain"], "there is no form 'Plain'; the forms are message, counting, plain");
-    mistake(&["translate", "x", "--to"], "--to needs a form after it");
+    mistake(&["translate", "x", "--to"], "--to needs a form or step after it");
     mistake(&["translate", "x", "--to", "plain", "--to", "plain"], "--to is given twice");
-    mistake(&["run", "x", "--to", "plain"], "--to is for translate alone");
-    mistake(&["draw", "x", "--to", "plain"], "--to is for translate alone");
+    mistake(&["run", "x", "--to", "plain"], "--to is for translate and trace alone");
+    mistake(&["draw", "x", "--to", "plain"], "--to is for translate and trace alone");
     mistake(&["run", "x", "-o"], "-o needs a file after it");
     mistake(&["run", "x", "--standing"], "--standing needs a file after it");
     mistake(&["run", "x", "-o", "a", "-o", "b"], "-o is given twice");

@@ -2,6 +2,13 @@
 
 use crate::terms::answer::Step;
 use crate::terms::form::Form;
+use std::ops::Range;
+
+/// The table that a bundle has in front, which may be empty; none where its trailer does not fit it.
+pub fn front(bundle: &[u8]) -> Option<&[u8]> {
+    let (before, trailer) = cut(bundle, 8)?;
+    cut(before, distance(trailer, 2)).map(|(front, _)| front)
+}
 
 /// A bundle by its parts.
 #[derive(Debug)]
@@ -87,6 +94,27 @@ impl<'a> Parts<'a> {
         Some((*self.rules.get(at)?, *self.rules.get(at + 1)?))
     }
 
+    /// How many rules the table in use has.
+    pub fn rules(&self) -> usize {
+        self.rules.len() / (2 + 3 * self.types)
+    }
+
+    /// A rule's a, b and d by type.
+    pub fn coefficients(&self, rule: u8) -> impl Iterator<Item = [i8; 3]> + 'a {
+        let long = 2 + 3 * self.types;
+        let record = self.rules.chunks_exact(long).nth(usize::from(rule)).unwrap_or(&[]);
+        record.get(2..).unwrap_or(&[]).chunks_exact(3).map(|c| [c[0] as i8, c[1] as i8, c[2] as i8])
+    }
+
+    /// How many sources its form has: senders, tags, or one.
+    pub fn sources(&self) -> usize {
+        match self.form {
+            Form::Message => self.n,
+            Form::Counting => 2,
+            Form::Plain => 1,
+        }
+    }
+
     /// Whether a state is accepting.
     pub fn accepting(&self, state: u64) -> bool {
         self.states.get(2 * state as usize).map_or(false, |flags| flags & 2 == 2)
@@ -101,9 +129,30 @@ impl<'a> Parts<'a> {
 
     /// The bytes of the bundle with its first `i` steps.
     pub fn first(&self, i: usize) -> Vec<u8> {
-        let steps = &self.steps[..self.steps.len().min(4 * i)];
+        self.closed(&self.steps[..self.steps.len().min(4 * i)])
+    }
+
+    /// The bytes of the bundle with one step more.
+    pub fn with(&self, step: Step) -> Vec<u8> {
+        self.closed(&[self.steps, &step.record()].concat())
+    }
+
+    // The bytes of the bundle with other steps.
+    fn closed(&self, steps: &[u8]) -> Vec<u8> {
         let distances = [steps.len(), steps.len() + self.starts.len()].map(|d| (d as u16).to_le_bytes());
         [self.front, self.starts, steps, &distances[0], &distances[1], self.numbers].concat()
+    }
+
+    /// Where a run's words have what a board has received of a type: a set, two counts or one.
+    pub fn received(&self, board: usize, kind: usize) -> Range<usize> {
+        let wide = self.form.wide();
+        let first = self.correct() + wide * (board * self.types + kind);
+        first..first + wide
+    }
+
+    /// Where a run's words have what was sent of a type: a set or a count.
+    pub fn sent(&self, kind: usize) -> usize {
+        self.words() - self.types + kind
     }
 
     /// What a run's words say; words past the lent ones count as 0.
@@ -113,15 +162,14 @@ impl<'a> Parts<'a> {
         let below = u64::MAX >> (64 - correct);
         let split = |set: u64| vec![(set & below).count_ones(), (set & !below).count_ones()];
         let received = |p: usize, m: usize| {
-            let wide = self.form.wide();
-            let cell = correct + wide * (p * types + m);
+            let cell = self.received(p, m);
             match self.form {
-                Form::Message => split(word(cell)),
-                Form::Counting | Form::Plain => (cell..cell + wide).map(|i| word(i) as u32).collect(),
+                Form::Message => split(word(cell.start)),
+                Form::Counting | Form::Plain => cell.map(|i| word(i) as u32).collect(),
             }
         };
         let sent = |m: usize| {
-            let last = word(self.words() - types + m);
+            let last = word(self.sent(m));
             match self.form {
                 Form::Message => last.count_ones(),
                 Form::Counting | Form::Plain => last as u32,
@@ -140,6 +188,7 @@ fn cut(bytes: &[u8], length: usize) -> Option<(&[u8], &[u8])> {
     bytes.len().checked_sub(length).map(|at| bytes.split_at(at))
 }
 
-fn distance(trailer: &[u8], at: usize) -> usize {
+/// The distance that stands at a byte of a trailer.
+pub fn distance(trailer: &[u8], at: usize) -> usize {
     usize::from(u16::from_le_bytes([trailer[at], trailer[at + 1]]))
 }

@@ -1,6 +1,8 @@
 //! The words after the program's name.
 
 use crate::names::shown;
+use crate::part::Part;
+use crate::show::Style;
 use crate::words::Words;
 use macaroosh::Form;
 use std::ffi::{OsStr, OsString};
@@ -32,8 +34,8 @@ pub struct Request {
     pub output: Option<PathBuf>,
     /// Whether what a refused schedule left goes there too, and not to standard output.
     pub partial: bool,
-    /// Whether the answer is for programs.
-    pub plain: bool,
+    /// Whom the answer is for.
+    pub style: Style,
 }
 
 /// The questions.
@@ -45,10 +47,14 @@ pub enum Command {
     Translate(Option<Form>),
     /// The first possible step after the schedule.
     First,
-    /// Each step.
-    Trace,
+    /// All possible steps after it.
+    All,
+    /// Each step, of those that are asked for.
+    Trace(Part),
     /// The drawing of a table, or an image of it.
     Draw(Option<Image>),
+    /// The same of a bundle's own table.
+    DrawOf(Option<Image>),
     /// The table of a drawing.
     Undraw,
     /// The text of a bundle.
@@ -70,7 +76,8 @@ impl Command {
 
     /// Whether its output is bytes that are no text.
     pub fn writes_bytes(self) -> bool {
-        matches!(self, Command::Translate(_) | Command::Undraw | Command::Pack | Command::Draw(Some(Image::Png)))
+        let image = matches!(self, Command::Draw(Some(Image::Png)) | Command::DrawOf(Some(Image::Png)));
+        image || matches!(self, Command::Translate(_) | Command::Undraw | Command::Pack)
     }
 }
 
@@ -107,14 +114,26 @@ impl Input {
 }
 
 const COMMANDS: &str = "run, trace, first, translate, draw, undraw, unpack, pack";
-const OPTIONS: &str = "--standing, -o, --to, --svg, --png, --plain, --partial, --help, --version";
+const OPTIONS: &str =
+    "--standing, -o, --to, --svg, --png, --of, --all, --board, --from, --plain, --json, --partial, --help, --version";
+
+/// The options that are for some commands alone.
+#[derive(Default)]
+struct Special {
+    to: Option<OsString>,
+    image: Option<Image>,
+    board: Option<usize>,
+    from: Option<usize>,
+    all: bool,
+    of: bool,
+}
 
 /// Reads the words, or says what is wrong with them. Options may stand anywhere; after `--` there are none.
 pub fn parse(words: impl Iterator<Item = OsString>) -> Result<Asked, String> {
     let mut words = Words::of(words);
     let mut free: Vec<OsString> = Vec::new();
-    let (mut standing, mut output, mut to, mut image) = (None, None, None, None);
-    let (mut plain, mut partial, mut options_end, mut any) = (false, false, false, false);
+    let (mut standing, mut output, mut special) = (None, None, Special::default());
+    let (mut plain, mut json, mut partial, mut options_end, mut any) = (false, false, false, false, false);
     while let Some(word) = words.next()? {
         any = true;
         // A word that is no text is no option, so it is taken as it is.
@@ -125,11 +144,16 @@ pub fn parse(words: impl Iterator<Item = OsString>) -> Result<Asked, String> {
             "--version" => return Ok(Asked::Version),
             "--plain" => plain = true,
             "--partial" => partial = true,
+            "--json" => json = true,
+            "--all" => special.all = true,
+            "--of" => special.of = true,
+            "--board" => once(&mut special.board, number(&words.value("--board", "number")?)?, "--board")?,
+            "--from" => once(&mut special.from, number(&words.value("--from", "step")?)?, "--from")?,
             "--standing" => once(&mut standing, Input::of(words.value("--standing", "file")?), "--standing")?,
             "-o" => once(&mut output, words.value("-o", "file")?, "-o")?,
-            "--to" => once(&mut to, form(&words.value("--to", "form")?)?, "--to")?,
-            "--svg" => once(&mut image, Image::Svg, "--svg or --png")?,
-            "--png" => once(&mut image, Image::Png, "--svg or --png")?,
+            "--to" => once(&mut special.to, words.value("--to", "form or step")?, "--to")?,
+            "--svg" => once(&mut special.image, Image::Svg, "--svg or --png")?,
+            "--png" => once(&mut special.image, Image::Png, "--svg or --png")?,
             _ => return Err(format!("there is no option '{}'; the options are {OPTIONS}", shown(&word))),
         }
     }
@@ -140,15 +164,18 @@ pub fn parse(words: impl Iterator<Item = OsString>) -> Result<Asked, String> {
     let command = match free.next() {
         None => return Err("which command: run, trace, first, translate, draw, undraw, unpack or pack?".to_string()),
         Some(word) if word == "help" => return Ok(Asked::Help),
-        Some(word) => command(&word, to, image)?,
+        Some(word) => command(&word, special)?,
     };
     let what = command.reads();
     let input = Input::of(free.next().ok_or(format!("which {what}? Name a file, or '-' for standard input"))?);
     if let Some(word) = free.next() {
         return Err(format!("one {what} at a time: '{}' is one word too many", shown(&word)));
     }
-    if partial && !matches!(command, Command::Run | Command::Trace) {
+    if partial && !matches!(command, Command::Run | Command::Trace(_)) {
         return Err("--partial is for run and trace alone".to_string());
+    }
+    if standing.is_some() && matches!(command, Command::DrawOf(_)) {
+        return Err("--of draws a bundle's own table; --standing is for bundles that are run".to_string());
     }
     if matches!(command, Command::Draw(_) | Command::Undraw) && standing.is_some() {
         return Err(format!("--standing is for bundles; this command reads a {what} alone"));
@@ -156,16 +183,21 @@ pub fn parse(words: impl Iterator<Item = OsString>) -> Result<Asked, String> {
     if input.is_standard() && standing.as_ref().map_or(false, Input::is_standard) {
         return Err(format!("only one of {what} and standing table can come from standard input"));
     }
+    let style = style(command, plain, json)?;
     let output = output.filter(|word| word != "-").map(PathBuf::from);
-    Ok(Asked::Answer(Request { command, input, standing, output, partial, plain }))
+    Ok(Asked::Answer(Request { command, input, standing, output, partial, style }))
 }
 
-fn command(word: &OsStr, to: Option<Form>, image: Option<Image>) -> Result<Command, String> {
+fn command(word: &OsStr, special: Special) -> Result<Command, String> {
+    let Special { to, image, board, from, all, of } = special;
+    let asked_to = to.is_some();
     let command = match word.to_str() {
         Some("run") => Command::Run,
-        Some("translate") => Command::Translate(to),
+        Some("translate") => Command::Translate(to.map(|word| form(&word)).transpose()?),
+        Some("first") if all => Command::All,
         Some("first") => Command::First,
-        Some("trace") => Command::Trace,
+        Some("trace") => Command::Trace(part(board, from, to)?),
+        Some("draw") if of => Command::DrawOf(image),
         Some("draw") => Command::Draw(image),
         Some("undraw") => Command::Undraw,
         Some("unpack") => Command::Unpack,
@@ -175,13 +207,50 @@ fn command(word: &OsStr, to: Option<Form>, image: Option<Image>) -> Result<Comma
             return Err(format!("there is no command '{word}'; the commands are {COMMANDS}"));
         }
     };
-    if image.is_some() && !matches!(command, Command::Draw(_)) {
+    if image.is_some() && !matches!(command, Command::Draw(_) | Command::DrawOf(_)) {
         return Err("--svg and --png are for draw alone".to_string());
     }
-    if to.is_some() && !matches!(command, Command::Translate(_)) {
-        return Err("--to is for translate alone".to_string());
+    if of && !matches!(command, Command::DrawOf(_)) {
+        return Err("--of is for draw alone".to_string());
+    }
+    if all && !matches!(command, Command::All) {
+        return Err("--all is for first alone".to_string());
+    }
+    if asked_to && !matches!(command, Command::Translate(_) | Command::Trace(_)) {
+        return Err("--to is for translate and trace alone".to_string());
+    }
+    if (board.is_some() || from.is_some()) && !matches!(command, Command::Trace(_)) {
+        return Err("--board and --from are for trace alone".to_string());
     }
     Ok(command)
+}
+
+// The steps that a trace is asked for.
+fn part(board: Option<usize>, from: Option<usize>, to: Option<OsString>) -> Result<Part, String> {
+    let to = to.map(|word| number(&word)).transpose()?;
+    match (from, to) {
+        (Some(first), Some(last)) if first > last => Err(format!("--from {first} is after --to {last}")),
+        _ => Ok(Part { board, from, to }),
+    }
+}
+
+// Whom the answer is for; bytes and drawings have no JSON.
+fn style(command: Command, plain: bool, json: bool) -> Result<Style, String> {
+    match (plain, json, command) {
+        (true, true, _) => Err("--plain and --json are two ways to give one answer; choose one".to_string()),
+        (_, true, Command::Run | Command::Trace(_) | Command::First | Command::All) => Ok(Style::Json),
+        (_, true, _) => Err("--json is for run, trace and first alone".to_string()),
+        (true, false, _) => Ok(Style::Plain),
+        (false, false, _) => Ok(Style::People),
+    }
+}
+
+// The number of a board or a step, in plain decimal.
+fn number(word: &OsStr) -> Result<usize, String> {
+    let digits = word.to_str().filter(|text| text.bytes().all(|byte| byte.is_ascii_digit()));
+    digits
+        .and_then(|text| text.parse().ok())
+        .ok_or_else(|| format!("'{}' is no number of a board or a step", word.to_string_lossy()))
 }
 
 // The form that a word names.

@@ -4,14 +4,42 @@ use crate::args::Image;
 use crate::graphviz;
 use crate::marks;
 use crate::picture;
-use crate::replies::Reply;
-use crate::show;
+use crate::replies::{self, Reply};
+use crate::{show, why};
+use macaroosh::library::parts::front;
 use macaroosh::terms::refusals::{self, Place};
-use macaroosh::{Answer, Refusal, MOST_DRAWING, MOST_TABLE};
+use macaroosh::{run, Answer, Refusal, ECHO, MOST_DRAWING, MOST_TABLE};
 use std::path::Path;
 
 /// The drawing of a table, or an image of it, which goes to `path`; or why Graphviz gave no image.
 pub fn draw(table: &[u8], image: Option<Image>, path: Option<&Path>, plain: bool) -> Result<Reply, String> {
+    let why = |refusal| why::of_table(table, refusal);
+    drawn(table, image, path, plain, &why)
+}
+
+/// The same of the table that a bundle has in front; or that it has none.
+pub fn draw_of(bundle: &[u8], image: Option<Image>, path: Option<&Path>, plain: bool) -> Result<Reply, String> {
+    let why = |refusal| why::of_bundle(bundle, &ECHO, refusal);
+    match front(bundle) {
+        Some(table) if !table.is_empty() => drawn(table, image, path, plain, &why),
+        Some(_) => Err("macaroosh: this bundle has no table of its own; it is read beside a standing table\n".into()),
+        // Its trailer does not fit it, so it is refused before any table is looked at.
+        None => {
+            let answer = run(bundle, &ECHO, &mut []);
+            let told = answer.refused().map_or(String::new(), |refusal| replies::told(refusal, why(refusal)));
+            Ok(Reply::of(Vec::new(), answer, told, plain))
+        }
+    }
+}
+
+// A table's drawing or image, and for people the lines that explain a refusal.
+fn drawn(
+    table: &[u8],
+    image: Option<Image>,
+    path: Option<&Path>,
+    plain: bool,
+    why: &dyn Fn(Refusal) -> Vec<String>,
+) -> Result<Reply, String> {
     let mut drawing = vec![0; MOST_DRAWING];
     let answer = macaroosh::draw(table, &mut drawing);
     drawing.truncate(answer.count as usize);
@@ -22,7 +50,7 @@ pub fn draw(table: &[u8], image: Option<Image>, path: Option<&Path>, plain: bool
     // What is told is the length of what is written, so of an image its own.
     let answer = Answer { count: output.len() as u32, ..answer };
     let told = match answer.refused() {
-        Some(refusal) => refusals::told(refusal) + "\n",
+        Some(refusal) => replies::told(refusal, why(refusal)),
         None => wrote(&output, thing, table, path),
     };
     Ok(Reply::of(output, answer, told, plain))
@@ -34,7 +62,7 @@ pub fn undraw(text: &[u8], path: Option<&Path>, plain: bool) -> Reply {
     let answer = macaroosh::undraw(text, &mut table);
     table.truncate(answer.count as usize);
     let told = match answer.refused() {
-        Some(refusal) => refused(text, refusal),
+        Some(refusal) => refused(text, refusal) + &why::of_drawing(text).map_or(String::new(), |line| line + "\n"),
         None => wrote(&table, "a table", &table, path),
     };
     Reply::of(table, answer, told, plain)

@@ -2,25 +2,31 @@
 //! 2 bad use.
 #![deny(unsafe_code)]
 
+mod all;
 mod args;
 mod draw;
 mod files;
 mod graphviz;
 mod guard;
+mod json;
+mod kinds;
 mod marks;
 mod names;
 mod output;
+mod part;
 mod picture;
 mod replies;
 mod show;
 mod system;
 mod text;
 mod trace;
+mod why;
 mod words;
 
 use args::{Asked, Command, Request};
 use macaroosh::{ECHO, MOST_BYTES, MOST_DRAWING, MOST_TABLE};
 use replies::{Question, Reply};
+use show::Style;
 use std::io::Write;
 use std::process::ExitCode;
 
@@ -47,6 +53,10 @@ beside the standing table. TABLE is a table alone, without a schedule. For
 each of the four '-' is standard input.
 
   --to FORM         the form to translate to: message, counting or plain
+  --from I, --to J  trace steps I to J alone
+  --board P         trace the steps of board P alone
+  --all             list every possible step, the first one first
+  --of              draw the table that a bundle has in front
   --standing FILE   the standing table; without this option the echo table
   --svg, --png      draw an image of the table; needs Graphviz's program dot
   -o FILE           write the output there; a file of that name stays as it
@@ -55,6 +65,7 @@ each of the four '-' is standard input.
                     that is refused at a step; without it a refused input
                     leaves the file as it was
   --plain           the same answer in numbers, for programs
+  --json            the same answer of run, trace or first as a JSON object
   --help            this page
   --version         the version
 
@@ -107,25 +118,29 @@ fn write(request: &Request, reply: &Reply) -> Result<(), String> {
 fn reply(request: &Request) -> Result<Reply, String> {
     let path = request.output.as_deref();
     let table = |input| files::read(input, &format!("a table has at most {MOST_TABLE}"));
+    let bundle = |input| files::read(input, &format!("a bundle has at most {MOST_BYTES}"));
     let standing = || request.standing.as_ref().map_or(Ok(ECHO.to_vec()), table);
-    let ask = |answered: &dyn Fn(&Question) -> Reply| {
-        let bundle = files::read(&request.input, &format!("a bundle has at most {MOST_BYTES}"))?;
-        Ok(answered(&Question { bundle: &bundle, standing: &standing()?, plain: request.plain }))
+    let plain = request.style == Style::Plain;
+    let ask = |answered: &dyn Fn(&Question) -> Result<Reply, String>| {
+        let (bundle, standing) = (bundle(&request.input)?, standing()?);
+        answered(&Question { bundle: &bundle, standing: &standing, style: request.style })
     };
     match request.command {
-        Command::Run => ask(&replies::run),
-        Command::Translate(to) => ask(&|question| replies::translate(question, to, path)),
-        Command::First => ask(&replies::first),
-        Command::Trace => ask(&trace::reply),
-        Command::Draw(image) => draw::draw(&table(&request.input)?, image, path, request.plain),
+        Command::Run => ask(&|question| Ok(replies::run(question))),
+        Command::Translate(to) => ask(&|question| Ok(replies::translate(question, to, path))),
+        Command::First => ask(&|question| Ok(replies::first(question))),
+        Command::All => ask(&replies::all),
+        Command::Trace(part) => ask(&|question| Ok(trace::reply(question, part))),
+        Command::Draw(image) => draw::draw(&table(&request.input)?, image, path, plain),
+        Command::DrawOf(image) => draw::draw_of(&bundle(&request.input)?, image, path, plain),
         Command::Undraw => {
             let most = format!("a drawing without blanks of its own has at most {MOST_DRAWING}");
-            Ok(draw::undraw(&files::read(&request.input, &most)?, path, request.plain))
+            Ok(draw::undraw(&files::read(&request.input, &most)?, path, plain))
         }
-        Command::Unpack => ask(&|question| text::unpack::reply(question, path)),
+        Command::Unpack => ask(&|question| Ok(text::unpack::reply(question, path))),
         Command::Pack => {
             let most = format!("a text without comments and blanks of its own has at most {}", text::MOST_TEXT);
-            Ok(text::pack::reply(&files::read(&request.input, &most)?, &standing()?, path, request.plain))
+            Ok(text::pack::reply(&files::read(&request.input, &most)?, &standing()?, path, plain))
         }
     }
 }

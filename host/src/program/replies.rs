@@ -1,9 +1,10 @@
 //! What each command has to say about a bundle; `trace` has a file of its own.
 
-use crate::show;
+use crate::show::{self, Style};
+use crate::{all, json, why};
 use macaroosh::library::parts::Parts;
-use macaroosh::terms::refusals::{self, Place};
-use macaroosh::{Answer, Form, Refusal, Step, MOST_WORDS};
+use macaroosh::terms::refusals;
+use macaroosh::{Answer, Form, Refusal, MOST_WORDS};
 use std::path::Path;
 
 /// A bundle and the table beside it.
@@ -12,8 +13,8 @@ pub struct Question<'a> {
     pub bundle: &'a [u8],
     /// The standing table.
     pub standing: &'a [u8],
-    /// Whether the answer is for programs.
-    pub plain: bool,
+    /// Whom the answer is for.
+    pub style: Style,
 }
 
 /// The answer to it.
@@ -37,39 +38,33 @@ impl Reply {
 impl Question<'_> {
     /// Text, and a refusal, which is told to people in words.
     pub fn reply(&self, output: String, refusal: Option<Refusal>) -> Reply {
-        let told = refusal.filter(|_| !self.plain).map(|refusal| self.told(refusal));
+        let told = refusal.filter(|_| self.style == Style::People).map(|refusal| self.told(refusal));
         Reply { output: output.into_bytes(), told, refused: refusal.is_some() }
     }
 
-    // The refusal in words, with the record of a step that it names.
+    // The refusal in words, and its figures.
     fn told(&self, refusal: Refusal) -> String {
-        let reason = refusals::told(refusal);
-        let at_step = refusals::of(refusal.number).map_or(false, |line| line.place == Place::Step);
-        let parts = if at_step { Parts::of(self.bundle, self.standing) } else { None };
-        match parts.and_then(|parts| parts.steps().nth(refusal.place as usize)) {
-            Some(Step { board, rule, kind, source }) => {
-                format!("{reason}\nthat step is board {board}, rule {rule}, type {kind}, source {source}\n")
-            }
-            None => reason + "\n",
-        }
+        told(refusal, why::of_bundle(self.bundle, self.standing, refusal))
     }
+}
+
+/// A refusal in words, and the lines that explain it.
+pub fn told(refusal: Refusal, lines: Vec<String>) -> String {
+    [vec![refusals::told(refusal)], lines].concat().join("\n") + "\n"
 }
 
 /// The configuration that the schedule leaves.
 pub fn run(question: &Question) -> Reply {
     let mut words = [0; MOST_WORDS];
     let answer = macaroosh::run(question.bundle, question.standing, &mut words);
-    let mut output = if question.plain { show::result(answer) } else { String::new() };
-    if answer.left_a_configuration() {
-        if let Some(parts) = Parts::of(question.bundle, question.standing) {
-            let picture = parts.picture(&words);
-            output += &if question.plain {
-                show::lines(&picture)
-            } else {
-                show::configuration(&parts, &picture, answer.count)
-            };
-        }
-    }
+    let parts = Parts::of(question.bundle, question.standing).filter(|_| answer.left_a_configuration());
+    let output = match (question.style, &parts) {
+        (Style::Json, _) => json::run(question, answer, parts.as_ref().map(|parts| (parts, &words[..]))),
+        (Style::Plain, Some(parts)) => show::result(answer) + &show::lines(&parts.picture(&words)),
+        (Style::Plain, None) => show::result(answer),
+        (Style::People, Some(parts)) => show::configuration(parts, &parts.picture(&words), answer.count),
+        (Style::People, None) => String::new(),
+    };
     question.reply(output, answer.refused())
 }
 
@@ -83,7 +78,7 @@ pub fn translate(question: &Question, to: Option<Form>, path: Option<&Path>) -> 
     };
     output.truncate(answer.count as usize);
     let told = match answer.refused() {
-        _ if question.plain => show::result(answer),
+        _ if question.style != Style::People => show::result(answer),
         Some(refusal) => question.told(refusal),
         None => {
             let form = output.last().and_then(|&number| Form::of(u64::from(number))).map_or("unknown", Form::name);
@@ -96,10 +91,31 @@ pub fn translate(question: &Question, to: Option<Form>, path: Option<&Path>) -> 
 /// The first possible step.
 pub fn first(question: &Question) -> Reply {
     let first = macaroosh::first_step(question.bundle, question.standing);
-    let output = match (first, Parts::of(question.bundle, question.standing)) {
-        _ if question.plain => show::first_lines(first),
-        (Ok(step), Some(parts)) => show::first(&parts, step),
-        _ => String::new(),
+    let parts = Parts::of(question.bundle, question.standing).filter(|_| first.is_ok());
+    let output = match (question.style, first, &parts) {
+        (Style::Json, ..) => json::first(question, parts.as_ref(), first),
+        (Style::Plain, ..) => show::first_lines(first),
+        (Style::People, Ok(step), Some(parts)) => show::first(parts, step),
+        (Style::People, ..) => String::new(),
     };
     question.reply(output, first.err())
+}
+
+/// All possible steps, or why they can't be tried; what is refused is so as by `first`.
+pub fn all(question: &Question) -> Result<Reply, String> {
+    let parts = match macaroosh::first_step(question.bundle, question.standing) {
+        Ok(_) => Parts::of(question.bundle, question.standing),
+        Err(_) => None,
+    };
+    let parts = match parts {
+        Some(parts) => parts,
+        None => return Ok(first(question)),
+    };
+    let steps = all::possible(&parts, question.standing)?;
+    let output = match question.style {
+        Style::Json => json::all(question, &parts, &steps),
+        Style::Plain => show::all_lines(&steps),
+        Style::People => show::all(&parts, &steps),
+    };
+    Ok(question.reply(output, None))
 }

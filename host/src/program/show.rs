@@ -5,6 +5,17 @@ use macaroosh::library::parts::{Parts, Picture};
 use macaroosh::{Answer, First, Form, Refusal, Step};
 use std::path::Path;
 
+/// Whom an answer is for.
+#[derive(Clone, Copy, Debug, PartialEq, Eq)]
+pub enum Style {
+    /// People, who read words.
+    People,
+    /// Programs: numbers in lines.
+    Plain,
+    /// Programs: one JSON object.
+    Json,
+}
+
 /// The report program's first line.
 pub fn result(answer: Answer) -> String {
     format!("result {} {} {}\n", answer.refusal, answer.place, answer.count)
@@ -44,31 +55,73 @@ pub fn first(parts: &Parts, step: Option<Step>) -> String {
         None => format!("after {after} the run is quiet: no board can do anything but wait\n"),
         Some(step) => {
             let (from, to) = parts.ends(step.rule).unwrap_or((0, 0));
-            let [board, rule, kind, source] = step.record();
-            let message = match (parts.form, source) {
-                _ if step.silent() => message(parts, step),
-                (Form::Message, _) => message(parts, step),
-                (Form::Counting, 0) => format!("type {kind} from a correct board"),
-                (Form::Counting, _) => format!("type {kind} from a faulty board"),
-                (Form::Plain, _) => format!("a message of type {kind}"),
-            };
+            let Step { board, rule, .. } = step;
+            let (message, bytes) = (heard(parts, step), bytes(step));
             format!(
                 "after {after} the first possible step is: board {board}, rule {rule} ({from} -> {to}), {message}\n\
-                 as bytes: {board:02X} {rule:02X} {kind:02X} {source:02X}\n"
+                 as bytes: {bytes}\n"
             )
         }
     }
 }
 
+/// All possible steps for programs: as the first step, with a line for each.
+pub fn all_lines(steps: &[Step]) -> String {
+    let line = |step: &Step| step.record().iter().fold("step".to_string(), |line, number| format!("{line} {number}"));
+    let lines: String = steps.iter().map(|step| line(step) + "\n").collect();
+    format!("result 0 0\n{}", if lines.is_empty() { "none\n" } else { &lines })
+}
+
+/// All possible steps for people, in the order of the first-step question.
+pub fn all(parts: &Parts, steps: &[Step]) -> String {
+    if steps.is_empty() {
+        return first(parts, None);
+    }
+    let mut rows = vec![["board", "rule", "from -> to", "receives", "as bytes"].map(str::to_string).to_vec()];
+    for &step in steps {
+        let (from, to) = parts.ends(step.rule).unwrap_or((0, 0));
+        let ends = format!("{from:>4} -> {}", state(parts, u64::from(to)));
+        rows.push(vec![step.board.to_string(), step.rule.to_string(), ends, heard(parts, step), bytes(step)]);
+    }
+    let (after, possible) = (counted(parts.length(), "step"), counted(steps.len(), "possible step"));
+    format!("{}\nafter {after}: {possible}, waits aside\n\n{}", setting(parts), aligned(&rows, &[2, 3, 4]))
+}
+
+// The message of a step as its form has it.
+fn heard(parts: &Parts, step: Step) -> String {
+    let Step { kind, source, .. } = step;
+    match (parts.form, source) {
+        _ if step.silent() => message(parts, step),
+        (Form::Message, _) => message(parts, step),
+        (Form::Counting, 0) => format!("type {kind} from a correct board"),
+        (Form::Counting, _) => format!("type {kind} from a faulty board"),
+        (Form::Plain, _) => format!("a message of type {kind}"),
+    }
+}
+
+fn bytes(step: Step) -> String {
+    step.record().map(|byte| format!("{byte:02X}")).join(" ")
+}
+
 /// The message of a step whose source is a sender.
 pub fn message(parts: &Parts, step: Step) -> String {
-    let Step { kind, source, .. } = step;
     if step.silent() {
         "no message".to_string()
-    } else if usize::from(source) < parts.correct() {
-        format!("type {kind} from board {source}")
     } else {
-        format!("type {kind} from faulty {source}")
+        format!("type {} from {}", step.kind, sender(parts, step.source))
+    }
+}
+
+/// A sender by its number.
+pub fn sender(parts: &Parts, source: u8) -> String {
+    format!("{} {source}", if usize::from(source) < parts.correct() { "board" } else { "faulty" })
+}
+
+/// The message of a record, whatever its numbers.
+pub fn message_of(step: Step) -> String {
+    match step {
+        _ if step.silent() => "no message".to_string(),
+        Step { kind, source, .. } => format!("type {kind}, source {source}"),
     }
 }
 
@@ -135,6 +188,15 @@ pub fn to(path: Option<&Path>) -> String {
 /// A number of things: `1 step`, `5 steps`.
 pub fn counted(number: usize, thing: &str) -> String {
     format!("{number} {thing}{}", if number == 1 { "" } else { "s" })
+}
+
+/// Numbers in a row: `2`, `2 and 3`, `2, 3 and 5`.
+pub fn listed(numbers: &[usize]) -> String {
+    let words: Vec<String> = numbers.iter().map(usize::to_string).collect();
+    match words.split_last() {
+        Some((last, before)) if !before.is_empty() => format!("{} and {last}", before.join(", ")),
+        _ => words.concat(),
+    }
 }
 
 /// Rows of cells as columns, to the right but for those named.

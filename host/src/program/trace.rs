@@ -1,34 +1,41 @@
 //! Each step of a schedule, by the library alone: the bundle with its first i steps is run for each i, and the senders of a
 //! counting or plain schedule come from its translation to message form, the tags of a message schedule from that to counting.
 
+use crate::json;
+use crate::part::Part;
 use crate::replies::{Question, Reply};
-use crate::show;
+use crate::show::{self, Style};
 use macaroosh::library::parts::{Parts, Picture};
 use macaroosh::{run, translate_to, Form, Step, MOST_WORDS};
 
-/// The trace of a bundle, up to a step that is refused.
-pub fn reply(question: &Question) -> Reply {
+/// A part of the trace of a bundle, up to a step that is refused.
+pub fn reply(question: &Question, part: Part) -> Reply {
     let answer = run(question.bundle, question.standing, &mut [0; MOST_WORDS]);
-    let mut output = if question.plain { show::result(answer) } else { String::new() };
-    if answer.left_a_configuration() {
-        if let Some(parts) = Parts::of(question.bundle, question.standing) {
-            let moves = moves(&parts, question.standing, answer.count as usize);
-            output += &if question.plain { lines(&parts, &moves) } else { table(&parts, &moves) };
-        }
-    }
+    let parts = Parts::of(question.bundle, question.standing).filter(|_| answer.left_a_configuration());
+    let moves = parts.as_ref().map_or(Vec::new(), |parts| moves(parts, question.standing, answer.count as usize, part));
+    let output = match (question.style, &parts) {
+        (Style::Json, _) => json::trace(question, answer, parts.as_ref().map(|parts| (parts, &moves[..]))),
+        (Style::Plain, Some(parts)) => show::result(answer) + &lines(parts, &moves),
+        (Style::Plain, None) => show::result(answer),
+        (Style::People, Some(parts)) => table(parts, &moves, part),
+        (Style::People, None) => String::new(),
+    };
     question.reply(output, answer.refused())
 }
 
 /// An accepted step.
-struct Move {
-    step: Step,
+pub struct Move {
+    /// Which step it is, from 0.
+    pub number: usize,
+    /// Its record.
+    pub step: Step,
     /// The same step translated.
-    other: Step,
+    pub other: Step,
     /// What the configuration comes to after it.
-    after: Picture,
+    pub after: Picture,
 }
 
-fn moves(parts: &Parts, standing: &[u8], accepted: usize) -> Vec<Move> {
+fn moves(parts: &Parts, standing: &[u8], accepted: usize, part: Part) -> Vec<Move> {
     let accepted_part = parts.first(accepted);
     let mut translated = vec![0; accepted_part.len()];
     let to = if parts.form == Form::Message { Form::Counting } else { Form::Message };
@@ -39,13 +46,19 @@ fn moves(parts: &Parts, standing: &[u8], accepted: usize) -> Vec<Move> {
         run(&parts.first(steps), standing, &mut words);
         parts.picture(&words)
     };
-    parts.steps().zip(others).enumerate().map(|(i, (step, other))| Move { step, other, after: after(i + 1) }).collect()
+    let shown = parts.steps().zip(others).enumerate().filter(|&(number, (step, _))| part.has(number, step));
+    shown.map(|(number, (step, other))| Move { number, step, other, after: after(number + 1) }).collect()
 }
 
 // For people: a line for the starts, then a row for each step.
-fn table(parts: &Parts, moves: &[Move]) -> String {
+fn table(parts: &Parts, moves: &[Move], part: Part) -> String {
     let starts: String = parts.starts.iter().map(|state| format!(" {state}")).collect();
-    let text = format!("{}\nboards start in states{starts}\n", show::setting(parts));
+    let only = match part.told() {
+        Some(told) if moves.is_empty() => format!("{told}: there are none\n"),
+        Some(told) => told + "\n",
+        None => String::new(),
+    };
+    let text = format!("{}\nboards start in states{starts}\n{only}", show::setting(parts));
     if moves.is_empty() {
         return text;
     }
@@ -58,7 +71,7 @@ fn table(parts: &Parts, moves: &[Move]) -> String {
     for first in ["has ", "sent "] {
         head.extend((0..parts.types).map(|m| format!("{}type {m}", if m == 0 { first } else { "" })));
     }
-    let rows = moves.iter().enumerate().map(|(i, m)| row(parts, i, m));
+    let rows = moves.iter().map(|m| row(parts, m));
     let rows: Vec<Vec<String>> = std::iter::once(head).chain(rows).collect();
     let chosen = if parts.form == Form::Message { "" } else { "senders are those that the translation chooses\n" };
     let counts = show::counts_of(parts);
@@ -66,10 +79,10 @@ fn table(parts: &Parts, moves: &[Move]) -> String {
         + &show::aligned(&rows, &left)
 }
 
-fn row(parts: &Parts, i: usize, m: &Move) -> Vec<String> {
+fn row(parts: &Parts, m: &Move) -> Vec<String> {
     let Step { board, rule, .. } = m.step;
     let (from, to) = parts.ends(rule).unwrap_or((0, 0));
-    let mut cells = vec![i.to_string(), board.to_string(), rule.to_string()];
+    let mut cells = vec![m.number.to_string(), board.to_string(), rule.to_string()];
     cells.push(format!("{from:>4} -> {}", show::state(parts, u64::from(to))));
     cells.push(show::message(parts, if parts.form == Form::Message { m.step } else { m.other }));
     if parts.form == Form::Counting {
@@ -91,9 +104,9 @@ fn lines(parts: &Parts, moves: &[Move]) -> String {
     let mut text = "start".to_string();
     text.extend(parts.starts.iter().map(|state| format!(" {state}")));
     text += "\n";
-    for (i, Move { step, other, after }) in moves.iter().enumerate() {
+    for Move { number, step, other, after } in moves {
         let [board, rule, kind, source] = step.record();
-        text += &format!("step {i} {board} {rule} {kind} {source} {}\n", other.source);
+        text += &format!("step {number} {board} {rule} {kind} {source} {}\n", other.source);
         text += &show::board_line(after, usize::from(board));
         text += &show::sent_line(after);
     }

@@ -79,12 +79,16 @@ pub fn of(number: u8) -> Option<&'static Line> {
     ALL.iter().find(|line| line.number == number)
 }
 
+/// When a number is given, in words.
+pub fn reason(number: u8) -> &'static str {
+    of(number).map_or("a number that the outline does not name", |line| line.when)
+}
+
 /// The refusal in words, as `refused 24 at step 4: the message is not in transit`.
 pub fn told(refusal: Refusal) -> String {
     let Refusal { number, place } = refusal;
-    let (counted, when) =
-        of(number).map_or((Place::None, "a number that the outline does not name"), |l| (l.place, l.when));
-    match counted {
+    let when = reason(number);
+    match of(number).map_or(Place::None, |line| line.place) {
         Place::None => format!("refused {number}: {when}"),
         Place::State => format!("refused {number} at state {place}: {when}"),
         Place::Rule => format!("refused {number} at rule {place}: {when}"),

@@ -1,15 +1,17 @@
 //! What `unpack` has to say: the text of a bundle that reading does not refuse.
 
 use super::{wrote, TAGS};
-use crate::replies::{Question, Reply};
+use crate::replies::{self, Question, Reply};
+use crate::show::Style;
+use crate::why;
 use macaroosh::library::parts::Parts;
-use macaroosh::terms::refusals;
 use macaroosh::{draw, run, Answer, Form, Step, MOST_DRAWING, MOST_WORDS};
 use std::path::Path;
 
 /// The text, which goes to `path`, or the refusal.
 pub fn reply(question: &Question, path: Option<&Path>) -> Reply {
-    let Question { bundle, standing, plain } = *question;
+    let Question { bundle, standing, style } = *question;
+    let plain = style == Style::Plain;
     let answer = run(bundle, standing, &mut [0; MOST_WORDS]);
     match Parts::of(bundle, standing) {
         Some(parts) if answer.left_a_configuration() => {
@@ -19,7 +21,8 @@ pub fn reply(question: &Question, path: Option<&Path>) -> Reply {
             Reply::of(text, answer, told, plain)
         }
         _ => {
-            let told = answer.refused().map_or(String::new(), |refusal| refusals::told(refusal) + "\n");
+            let words = |refusal| replies::told(refusal, why::of_bundle(bundle, standing, refusal));
+            let told = answer.refused().map_or(String::new(), words);
             Reply::of(Vec::new(), answer, told, plain)
         }
     }

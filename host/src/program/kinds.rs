@@ -1,0 +1,40 @@
+//! A file that is something else than what was asked for, by the library's own answers.
+
+use macaroosh::library::parts::front;
+use macaroosh::{draw, run, undraw, ECHO, MOST_DRAWING, MOST_TABLE, MOST_WORDS};
+
+/// What an input can be.
+#[derive(Clone, Copy, PartialEq, Eq)]
+pub enum Kind {
+    /// A schedule, with a table in front or beside it.
+    Bundle,
+    /// A table alone.
+    Table,
+    /// A table as text.
+    Drawing,
+}
+
+/// What refused bytes are, where the library reads them as something else than was wanted.
+pub fn instead(bytes: &[u8], wanted: Kind) -> Option<&'static str> {
+    let is =
+        [Kind::Table, Kind::Bundle, Kind::Drawing].into_iter().find(|&kind| kind != wanted && read(bytes, kind))?;
+    Some(match (is, wanted) {
+        (Kind::Table, Kind::Bundle) => "a table; a bundle is a table and then a schedule; see draw",
+        (Kind::Table, _) => "a table; see draw",
+        (Kind::Bundle, Kind::Table) if front(bytes).map_or(false, |front| !front.is_empty()) => {
+            "a bundle; draw --of draws the table of one"
+        }
+        (Kind::Bundle, Kind::Table) => "a bundle, and without a table of its own",
+        (Kind::Bundle, _) => "a bundle; see run",
+        (Kind::Drawing, _) => "a drawing; see undraw",
+    })
+}
+
+// A bundle is read where its steps are looked at, whatever becomes of them.
+fn read(bytes: &[u8], kind: Kind) -> bool {
+    match kind {
+        Kind::Bundle => run(bytes, &ECHO, &mut [0; MOST_WORDS]).left_a_configuration(),
+        Kind::Table => draw(bytes, &mut [0; MOST_DRAWING]).refusal == 0,
+        Kind::Drawing => undraw(bytes, &mut [0; MOST_TABLE]).refusal == 0,
+    }
+}
