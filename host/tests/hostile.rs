@@ -673,7 +673,7 @@ fn values_may_stand_after_a_sign() {
     assert_eq!((got.status.code(), text(&got.stdout)), (Some(0), RAN), "{}", text(&got.stderr));
     let wrong = [
         (&["translate", "x", "--to=round"][..], "there is no form 'round'"),
-        (&["translate", "x", "--to="], "--to needs a form after it"),
+        (&["translate", "x", "--to="], "--to needs a form or step after it"),
         (&["run", "x", "--standing="], "--standing needs a file after it"),
         (&["translate", "x", "--to=plain", "--to", "plain"], "--to is given twice"),
         (&["run", "x", "--plain=yes"], "--plain takes no value"),

@@ -805,7 +805,7 @@ fn wrong_words_are_told() {
         (&["first", "x", "--from", "1"], "--board and --from are for trace alone"),
         (&["run", "x", "--to", "1"], "--to is for translate and trace alone"),
         (&["trace", "x", "--to", "plain"], "'plain' is no number of a board or a step"),
-        (&["trace", "x", "--board", "-1"], "'-1' is no number of a board or a step"),
+        (&["trace", "x", "--board=-1"], "'-1' is no number of a board or a step"),
         (&["trace", "x", "--from", "+1"], "'+1' is no number of a board or a step"),
         (&["trace", "x", "--from", "3", "--to", "2"], "--from 3 is after --to 2"),
         (&["trace", "x", "--board"], "--board needs a number after it"),

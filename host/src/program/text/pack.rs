@@ -5,8 +5,8 @@ use super::said::Said;
 use super::wrong::Wrong;
 use super::wrote;
 use crate::marks;
-use crate::replies::Reply;
-use crate::show;
+use crate::replies::{self, Reply};
+use crate::{show, why};
 use macaroosh::terms::refusals;
 use macaroosh::{run, Answer, Refusal, MOST_WORDS};
 use std::path::Path;
@@ -32,7 +32,10 @@ fn packed(text: &[u8], standing: &[u8]) -> Result<(Said, Vec<u8>), Wrong> {
     let bundle = bundle(&said);
     let answer = run(&bundle, standing, &mut [0; MOST_WORDS]);
     match answer.refused() {
-        Some(refusal) if !answer.left_a_configuration() => Err(Wrong::Refused(answer, refused(text, &said, refusal))),
+        Some(refusal) if !answer.left_a_configuration() => {
+            let lines = why::of_bundle(&bundle, standing, refusal);
+            Err(Wrong::Refused(answer, refused(text, &said, refusal, lines)))
+        }
         _ => Ok((said, bundle)),
     }
 }
@@ -44,14 +47,14 @@ fn bundle(said: &Said) -> Vec<u8> {
     [&said.front[..], &said.starts, &steps, &distances.concat(), &said.sizes, &[said.form.number()]].concat()
 }
 
-// The refusal in words, and the line that it is about, if that is one of the text.
-fn refused(text: &[u8], said: &Said, refusal: Refusal) -> String {
+// The refusal in words, and the line that it is about, if that is one of the text; else its figures.
+fn refused(text: &[u8], said: &Said, refusal: Refusal, figures: Vec<String>) -> String {
     let reason = refusals::told(refusal);
     let at = match refusal.number {
         12 => said.places.sizes,
         13 => said.places.start,
         14 => said.places.starts.get(refusal.place as usize).map_or(said.places.start, |&at| at),
-        _ => return reason + "\n",
+        _ => return replies::told(refusal, figures),
     };
     let why = if refusal.number == 13 { starts_for_boards(said) } else { String::new() };
     format!("{reason}\n{}:{why}\n{}", marks::told(text, at), marks::shown(text, at))
