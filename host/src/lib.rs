@@ -1,8 +1,8 @@
-//! The agreement bench for Rust: the proved library's calls, beside them an independent model that judges them, and a
-//! hand-written fast version that their speed is measured against.
+//! The agreement bench for Rust: the proved library's calls.
 //!
 //! ```
-//! use macaroosh::{draw, first_step, run, translate_to, undraw, ECHO, MOST_DRAWING, MOST_TABLE, MOST_WORDS};
+//! use macaroosh::calls::{draw, first_step, run, translate_to, undraw};
+//! use macaroosh::{ECHO, MOST_DRAWING, MOST_TABLE, MOST_WORDS};
 //!
 //! // Schedule W of the outline: three correct boards and a faulty one, read beside the echo table.
 //! let w = [
@@ -31,14 +31,11 @@
 #![deny(unsafe_code)]
 #![warn(missing_docs)]
 
-pub mod dice;
-pub mod judge;
-pub mod library;
-pub mod makers;
+mod library;
 pub mod terms;
 
-pub use library::{draw, first_step, run, translate, translate_to, undraw, Library};
-pub use terms::answer::{Answer, Bench, Draws, First, Refusal, Step};
+pub use library::{calls, parts};
 pub use terms::echo::ECHO;
 pub use terms::form::Form;
+pub use terms::refusals::Refusal;
 pub use terms::sizes::{MOST_BYTES, MOST_DRAWING, MOST_TABLE, MOST_WORDS};

@@ -4,14 +4,15 @@ use crate::args::Image;
 use crate::graphviz::{self, Layout};
 use crate::replies::Reply;
 use crate::show;
+use macaroosh::calls::Answer;
 use macaroosh::terms::refusals::{self, Place};
-use macaroosh::{Answer, Refusal, MOST_DRAWING, MOST_TABLE};
+use macaroosh::{Refusal, MOST_DRAWING, MOST_TABLE};
 use std::path::Path;
 
 /// The drawing of a table, or an image of it, which goes to `path`; or why Graphviz gave no image.
 pub fn draw(table: &[u8], image: Option<Image>, path: Option<&Path>, plain: bool) -> Result<Reply, String> {
     let mut drawing = vec![0; MOST_DRAWING];
-    let answer = macaroosh::draw(table, &mut drawing);
+    let answer = macaroosh::calls::draw(table, &mut drawing);
     drawing.truncate(answer.count as usize);
     let (output, thing) = match image {
         Some(image) if answer.refusal == 0 => (graphviz::image(&drawing, &layout(table), image)?, "an image"),
@@ -27,7 +28,7 @@ pub fn draw(table: &[u8], image: Option<Image>, path: Option<&Path>, plain: bool
 /// The table of a drawing, which goes to `path`.
 pub fn undraw(text: &[u8], path: Option<&Path>, plain: bool) -> Reply {
     let mut table = vec![0; MOST_TABLE];
-    let answer = macaroosh::undraw(text, &mut table);
+    let answer = macaroosh::calls::undraw(text, &mut table);
     table.truncate(answer.count as usize);
     let told = match answer.refused() {
         Some(refusal) => refused(text, refusal),

@@ -1,9 +1,10 @@
 //! What each command has to say about a bundle; `trace` has a file of its own.
 
 use crate::show;
-use macaroosh::library::parts::Parts;
+use macaroosh::calls::Step;
+use macaroosh::parts::Parts;
 use macaroosh::terms::refusals::{self, Place};
-use macaroosh::{Form, Refusal, Step, MOST_WORDS};
+use macaroosh::{Form, Refusal, MOST_WORDS};
 use std::path::Path;
 
 /// A bundle and the table beside it.
@@ -50,7 +51,7 @@ impl Question<'_> {
 /// The configuration that the schedule leaves.
 pub fn run(question: &Question) -> Reply {
     let mut words = [0; MOST_WORDS];
-    let answer = macaroosh::run(question.bundle, question.standing, &mut words);
+    let answer = macaroosh::calls::run(question.bundle, question.standing, &mut words);
     let mut output = if question.plain { show::result(answer) } else { String::new() };
     if answer.left_a_configuration() {
         if let Some(parts) = Parts::of(question.bundle, question.standing) {
@@ -70,8 +71,8 @@ pub fn translate(question: &Question, to: Option<Form>, path: Option<&Path>) -> 
     let Question { bundle, standing, .. } = *question;
     let mut output = vec![0; bundle.len()];
     let answer = match to {
-        Some(form) => macaroosh::translate_to(bundle, standing, u64::from(form.number()), &mut output),
-        None => macaroosh::translate(bundle, standing, &mut output),
+        Some(form) => macaroosh::calls::translate_to(bundle, standing, u64::from(form.number()), &mut output),
+        None => macaroosh::calls::translate(bundle, standing, &mut output),
     };
     output.truncate(answer.count as usize);
     let told = match answer.refused() {
@@ -87,7 +88,7 @@ pub fn translate(question: &Question, to: Option<Form>, path: Option<&Path>) -> 
 
 /// The first possible step.
 pub fn first(question: &Question) -> Reply {
-    let first = macaroosh::first_step(question.bundle, question.standing);
+    let first = macaroosh::calls::first_step(question.bundle, question.standing);
     let output = match (first, Parts::of(question.bundle, question.standing)) {
         _ if question.plain => show::first_lines(first),
         (Ok(step), Some(parts)) => show::first(&parts, step),

@@ -1,7 +1,8 @@
 //! Answers as people read them, and as programs do.
 
-use macaroosh::library::parts::{Parts, Picture};
-use macaroosh::{Answer, First, Form, Refusal, Step};
+use macaroosh::calls::{Answer, First, Step};
+use macaroosh::parts::{Parts, Picture};
+use macaroosh::{Form, Refusal};
 use std::path::Path;
 
 /// The report program's first line.

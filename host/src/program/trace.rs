@@ -3,8 +3,9 @@
 
 use crate::replies::{Question, Reply};
 use crate::show;
-use macaroosh::library::parts::{Parts, Picture};
-use macaroosh::{run, translate_to, Form, Step, MOST_WORDS};
+use macaroosh::calls::{run, translate_to, Step};
+use macaroosh::parts::{Parts, Picture};
+use macaroosh::{Form, MOST_WORDS};
 
 /// The trace of a bundle, up to a step that is refused.
 pub fn reply(question: &Question) -> Reply {

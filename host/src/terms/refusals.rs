@@ -1,6 +1,13 @@
 //! The outline's table of refusals in words, with those of drawings.
 
-use crate::terms::answer::Refusal;
+/// A refusal's number and its place.
+#[derive(Clone, Copy, Debug, PartialEq, Eq)]
+pub struct Refusal {
+    /// The number in the outline's table.
+    pub number: u8,
+    /// The state, rule, board, step or byte; 0 where none is named.
+    pub place: u32,
+}
 
 /// What a refusal's place counts, always from 0.
 #[derive(Clone, Copy, Debug, PartialEq, Eq)]
