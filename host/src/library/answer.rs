@@ -19,6 +19,11 @@ impl Answer {
         (self.refusal != 0).then_some(Refusal { number: self.refusal, place: self.place })
     }
 
+    /// The count, or the refusal.
+    pub fn result(self) -> Result<usize, Refusal> {
+        self.refused().map_or(Ok(self.count as usize), Err)
+    }
+
     /// Whether steps were looked at, so that the configuration after the accepted ones is left.
     pub fn left_a_configuration(self) -> bool {
         self.refusal == 0 || (20..30).contains(&self.refusal)
@@ -43,17 +48,20 @@ pub struct Step {
 
 impl Step {
     /// The step of a record.
+    #[inline]
     pub fn of(record: [u8; 4]) -> Step {
         let [board, rule, kind, source] = record;
         Step { board, rule, kind, source }
     }
 
     /// Its record.
+    #[inline]
     pub fn record(self) -> [u8; 4] {
         [self.board, self.rule, self.kind, self.source]
     }
 
     /// Whether it receives nothing.
+    #[inline]
     pub fn silent(self) -> bool {
         (self.kind, self.source) == (255, 255)
     }
