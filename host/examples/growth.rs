@@ -6,9 +6,11 @@
 //! - `growth ask library|rust|more NAME 0|1` reads both bundles, prints the addresses of the first lent word and of the end, and
 //!   asks one of the bundles to be run. `more` is the library, and one store more into its first word.
 
-use macaroosh::judge::fast::Fast;
-use macaroosh::makers::growth::growth;
-use macaroosh::{Answer, Bench, First, Library, ECHO, MOST_WORDS};
+use judge::fast::Fast;
+use judge::makers::growth::growth;
+use judge::{Bench, Library};
+use macaroosh::calls::{Answer, First};
+use macaroosh::{ECHO, MOST_WORDS};
 use std::process::ExitCode;
 
 fn main() -> ExitCode {

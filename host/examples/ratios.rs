@@ -4,10 +4,12 @@
 //! - `ratios write FOLDER` writes each case's bundle there and prints a line for each measurement: file and question.
 //! - `ratios one library|rust run|translate|first FILE COUNT` only asks the question so often, to be counted from outside.
 
-use macaroosh::judge::fast::Fast;
-use macaroosh::judge::model::Model;
-use macaroosh::makers::cases::{cases, Case};
-use macaroosh::{Answer, Bench, First, Library, ECHO, MOST_WORDS};
+use judge::fast::Fast;
+use judge::makers::cases::{cases, Case};
+use judge::model::Model;
+use judge::{Bench, Library};
+use macaroosh::calls::{Answer, First};
+use macaroosh::{ECHO, MOST_WORDS};
 use std::process::ExitCode;
 use std::time::{Duration, Instant};
 

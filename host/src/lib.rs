@@ -1,44 +1,22 @@
-//! The agreement bench for Rust: the proved library's calls, beside them an independent model that judges them, and a
-//! hand-written fast version that their speed is measured against.
+//! The agreement bench for Rust: the proved library's calls. Each asks about a bundle (a table, then a schedule) beside a standing
+//! table, or about a table and its drawing, and answers a `Result`: a [`Refusal`] has the outline's number, its place and the
+//! reason.
 //!
-//! ```
-//! use macaroosh::{draw, first_step, run, translate_to, undraw, ECHO, MOST_DRAWING, MOST_TABLE, MOST_WORDS};
+//! A call that gives back bytes or a configuration allocates them; beside it one of the same name and `_into` writes to memory
+//! that is lent to it, and allocates nothing. [`calls`] has the exact numbers of the C header, [`parts`] what a bundle's bytes say.
 //!
-//! // Schedule W of the outline: three correct boards and a faulty one, read beside the echo table.
-//! let w = [
-//!     1, 1, 1, 0, 3, 255, 255, 1, 3, 255, 255, 2, 3, 0, 0, 2, 4, 0, 3, 2, 5, 0, 1, 20, 0, 23, 0, 4, 1, 1, 0,
-//! ];
-//! let mut words = [0; MOST_WORDS];
-//! let answer = run(&w, &ECHO, &mut words);
-//! assert_eq!((answer.refusal, answer.place, answer.count), (0, 0, 5));
-//! assert_eq!(words[..7], [2, 2, 3, 0, 0, 0b1011, 0b111]);
-//! let step = first_step(&w, &ECHO).expect("no refusal").expect("a step");
-//! assert_eq!(step.record(), [0, 4, 0, 0]);
-//!
-//! // W in plain form, number 2: as many messages, and no word of who sent them.
-//! let mut plain = [0; 31];
-//! assert_eq!(translate_to(&w, &ECHO, 2, &mut plain).count, 31);
-//! run(&plain, &ECHO, &mut words);
-//! assert_eq!(words[..7], [2, 2, 3, 0, 0, 3, 3]);
-//!
-//! // The echo table as a drawing, and back.
-//! let (mut text, mut table) = ([0; MOST_DRAWING], [0; MOST_TABLE]);
-//! let drawn = draw(&ECHO, &mut text).count as usize;
-//! assert!(text[..drawn].starts_with(b"digraph t {\nT=1; k=3;\ns0 [label=\"1 0\"];\n"));
-//! let read = undraw(&text[..drawn], &mut table).count as usize;
-//! assert_eq!(table[..read], ECHO);
-//! ```
+#![doc = concat!("```\n", include_str!("../examples/calls.rs"), "```")]
 #![deny(unsafe_code)]
 #![warn(missing_docs)]
 
-pub mod dice;
-pub mod judge;
-pub mod library;
-pub mod makers;
+mod library;
 pub mod terms;
+mod typed;
 
-pub use library::{draw, first_step, run, translate, translate_to, undraw, Library};
-pub use terms::answer::{Answer, Bench, Draws, First, Refusal, Step};
+pub use library::{calls, parts};
 pub use terms::echo::ECHO;
 pub use terms::form::Form;
+pub use terms::refusals::Refusal;
 pub use terms::sizes::{MOST_BYTES, MOST_DRAWING, MOST_STEPS, MOST_TABLE, MOST_WORDS};
+pub use typed::{draw, draw_into, first_step, run, run_into, translate, translate_into, undraw, undraw_into};
+pub use typed::{Configuration, Message, Refused, Run, Sender, Step};

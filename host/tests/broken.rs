@@ -2,11 +2,13 @@
 //! outline's slips that look harmless, the next four take waits wrongly, five more the plain form, six the form asked for; the
 //! others are what the outline asks to be caught.
 
-use macaroosh::dice::Dice;
-use macaroosh::judge::compare::compare;
-use macaroosh::judge::model::{Bundle, Configuration, Messages, Model, Outline};
-use macaroosh::makers::bundles::case;
-use macaroosh::{Answer, Bench, First, Form, Library, Refusal, Step};
+use judge::compare::compare;
+use judge::dice::Dice;
+use judge::makers::bundles::case;
+use judge::model::{Bundle, Configuration, Messages, Model, Outline};
+use judge::{Bench, Library};
+use macaroosh::calls::{Answer, First, Step};
+use macaroosh::{Form, Refusal};
 
 // The first seed whose bundle shows the difference.
 fn caught(broken: &dyn Bench) -> Option<u64> {

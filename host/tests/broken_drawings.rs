@@ -1,12 +1,13 @@
 //! The comparison of drawings can fail: each broken variant of the model differs from the library on some seeded table or
 //! text.
 
-use macaroosh::dice::Dice;
-use macaroosh::judge::compare::{compare_draw, compare_undraw};
-use macaroosh::judge::drawings::{Drawing, Text};
-use macaroosh::judge::model::{Model, Rule};
-use macaroosh::makers::sketches;
-use macaroosh::{Answer, Draws, Library};
+use judge::compare::{compare_draw, compare_undraw};
+use judge::dice::Dice;
+use judge::drawings::{Drawing, Text};
+use judge::makers::sketches;
+use judge::model::{Model, Rule};
+use judge::{Draws, Library};
+use macaroosh::calls::Answer;
 use std::ops::RangeInclusive;
 
 // The first seed whose table or text shows the difference.

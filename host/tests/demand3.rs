@@ -1,12 +1,14 @@
 //! Demand 3 on a bench's own outputs: what a schedule does in one form, its translation does in each other. Where one of the two
 //! is plain, sums stand in place of the correct and faulty counts.
 
-use macaroosh::dice::{each_seed, Dice};
-use macaroosh::judge::fast::Fast;
-use macaroosh::judge::model::{read, Model};
-use macaroosh::library::parts::{Parts, Picture};
-use macaroosh::makers::bundles::{any, in_form, with};
-use macaroosh::{Answer, Bench, Form, Library, Step, ECHO, MOST_WORDS};
+use judge::dice::{each_seed, Dice};
+use judge::fast::Fast;
+use judge::makers::bundles::{any, in_form, with};
+use judge::model::{read, Model};
+use judge::{Bench, Library};
+use macaroosh::calls::{Answer, Step};
+use macaroosh::parts::{Parts, Picture};
+use macaroosh::{Form, ECHO, MOST_WORDS};
 use std::collections::BTreeSet;
 
 fn run(bench: &dyn Bench, bytes: &[u8]) -> (Answer, Vec<u64>) {

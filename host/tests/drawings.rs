@@ -1,12 +1,14 @@
 //! Drawings: the text to the byte, every beginning, every gap, stray bytes; and the library against the model on seeded tables
 //! and texts, every lent byte. `DRAWINGS=n` tries more than 2,000 of each.
 
-use macaroosh::dice::{each_seed, seeds, Dice};
-use macaroosh::judge::compare::{compare_draw, compare_undraw};
-use macaroosh::judge::drawings::{Drawing, Text};
-use macaroosh::judge::model::{read_table, Model, Rule};
-use macaroosh::makers::sketches;
-use macaroosh::{Answer, Draws, Library, ECHO, MOST_DRAWING, MOST_TABLE};
+use judge::compare::{compare_draw, compare_undraw};
+use judge::dice::{each_seed, seeds, Dice};
+use judge::drawings::{Drawing, Text};
+use judge::makers::sketches;
+use judge::model::{read_table, Model, Rule};
+use judge::{Draws, Library};
+use macaroosh::calls::Answer;
+use macaroosh::{ECHO, MOST_DRAWING, MOST_TABLE};
 use std::collections::BTreeSet;
 
 const DRAWERS: [(&str, &dyn Draws); 2] = [("model", &Model), ("library", &Library)];

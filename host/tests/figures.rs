@@ -4,9 +4,11 @@
 mod reporter;
 mod table;
 
-use macaroosh::judge::fast::Fast;
-use macaroosh::judge::model::{read, report, Model, Outline};
-use macaroosh::{Answer, Bench, First, Form, Library, Refusal, ECHO, MOST_BYTES};
+use judge::fast::Fast;
+use judge::model::{read, report, Model, Outline};
+use judge::{Bench, Library};
+use macaroosh::calls::{Answer, First};
+use macaroosh::{Form, Refusal, ECHO, MOST_BYTES};
 use reporter::reported;
 use table::{case, cases};
 

@@ -1,11 +1,13 @@
 //! Q-5, "No echo from nothing": where every correct board starts in V0, which is state 0, no schedule of the echo table brings
 //! a board to another state or sends anything. With the table that asks for t echoes in place of t + 1, the same schedules do.
 
-use macaroosh::dice::{each_seed, Dice};
-use macaroosh::judge::model::{read, Bundle, Model};
-use macaroosh::library::parts::Parts;
-use macaroosh::makers::bundles::{closed, wild};
-use macaroosh::{Answer, Bench, First, Form, Library, Step, ECHO, MOST_WORDS};
+use judge::dice::{each_seed, Dice};
+use judge::makers::bundles::{closed, wild};
+use judge::model::{read, Bundle, Model};
+use judge::{Bench, Library};
+use macaroosh::calls::{Answer, First, Step};
+use macaroosh::parts::Parts;
+use macaroosh::{Form, ECHO, MOST_WORDS};
 use std::collections::BTreeSet;
 
 // The echo table whose rule 1 asks for t echoes.

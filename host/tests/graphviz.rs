@@ -1,12 +1,13 @@
 //! Graphviz's own program `dot` takes drawings: its image of a table has as many nodes as states and as many edges as rules.
 //! 'tools/cargo test' installs it where it is missing.
 
-use macaroosh::dice::Dice;
-use macaroosh::judge::drawings::Drawing;
-use macaroosh::judge::model::Rule;
-use macaroosh::makers::bundles::table;
-use macaroosh::makers::sketches;
-use macaroosh::{draw, ECHO, MOST_DRAWING};
+use judge::dice::Dice;
+use judge::drawings::Drawing;
+use judge::makers::bundles::table;
+use judge::makers::sketches;
+use judge::model::Rule;
+use macaroosh::calls::draw;
+use macaroosh::{ECHO, MOST_DRAWING};
 use std::io::Write;
 use std::process::{Command, Stdio};
 

@@ -1,8 +1,8 @@
 //! What must hold where folders, files and inputs are against it: the script in a folder with settings for cargo, files that
 //! may not be written, streams, links and signals in the middle of a write, names that write to a terminal, damaged inputs.
 
-use macaroosh::dice::{each_seed, seeds, Dice};
-use macaroosh::makers::{bundles, sketches};
+use judge::dice::{each_seed, seeds, Dice};
+use judge::makers::{bundles, sketches};
 use std::ffi::{CStr, OsStr, OsString};
 use std::fs::{self, File, OpenOptions, Permissions};
 use std::io::Write;

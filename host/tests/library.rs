@@ -1,14 +1,15 @@
 //! The library and the hand-written fast version against the model on seeded bundles, every lent word and byte. `SEEDS=n` tries
 //! more than 20,000.
 
-use macaroosh::dice::{each_seed, seeds, Dice};
-use macaroosh::judge::compare::{compare, Alike};
-use macaroosh::judge::fast::Fast;
-use macaroosh::judge::model::{read, Model};
-use macaroosh::makers::bundles::case;
-use macaroosh::makers::cases::cases;
+use judge::compare::{compare, Alike};
+use judge::dice::{each_seed, seeds, Dice};
+use judge::fast::Fast;
+use judge::makers::bundles::case;
+use judge::makers::cases::cases;
+use judge::model::{read, Model};
+use judge::{Bench, Library};
 use macaroosh::terms::refusals;
-use macaroosh::{Bench, Form, Library, ECHO};
+use macaroosh::{Form, ECHO};
 use std::collections::BTreeMap;
 
 // The refusals of run and translation that came up on the seed's bundle, and the kind of its first step.

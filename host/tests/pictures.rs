@@ -1,9 +1,9 @@
 //! Images of a table: each state and rule is in them once, thresholds are in words, and what Graphviz does wrong is told.
 
-use macaroosh::dice::{each_seed, seeds, Dice};
-use macaroosh::judge::drawings::Drawing;
-use macaroosh::judge::model::{read_table, Rule, Table};
-use macaroosh::makers::sketches;
+use judge::dice::{each_seed, seeds, Dice};
+use judge::drawings::Drawing;
+use judge::makers::sketches;
+use judge::model::{read_table, Rule, Table};
 use std::collections::{BTreeMap, BTreeSet};
 use std::ffi::OsStr;
 use std::fs;

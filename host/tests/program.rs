@@ -1,10 +1,10 @@
 //! The program: its commands, its refusals in words, mistakes of its user, and what becomes of files.
 
-use macaroosh::dice::Dice;
-use macaroosh::judge::drawings::Text;
-use macaroosh::judge::model::{read_table, report, Model};
-use macaroosh::makers::bundles::any;
-use macaroosh::makers::sketches;
+use judge::dice::Dice;
+use judge::drawings::Text;
+use judge::makers::bundles::any;
+use judge::makers::sketches;
+use judge::model::{read_table, report, Model};
 use macaroosh::{Form, MOST_BYTES};
 use std::ffi::OsStr;
 use std::fs::{self, File};

@@ -1,11 +1,13 @@
 //! When a run has gone quiet: run and translation accept waits, and the first-step question passes them over. A wait is a
 //! step with no message whose rule has from = to.
 
-use macaroosh::dice::{each_seed, Dice};
-use macaroosh::judge::fast::Fast;
-use macaroosh::judge::model::{read, Bundle, Model};
-use macaroosh::makers::bundles::{case, closed, in_form, with};
-use macaroosh::{Bench, First, Form, Library, Step, ECHO, MOST_WORDS};
+use judge::dice::{each_seed, Dice};
+use judge::fast::Fast;
+use judge::makers::bundles::{case, closed, in_form, with};
+use judge::model::{read, Bundle, Model};
+use judge::{Bench, Library};
+use macaroosh::calls::{First, Step};
+use macaroosh::{Form, ECHO, MOST_WORDS};
 use std::collections::BTreeMap;
 
 const BENCHES: [(&str, &dyn Bench); 3] = [("model", &Model), ("library", &Library), ("fast", &Fast)];

@@ -2,9 +2,9 @@
 
 mod reporter;
 
-use macaroosh::dice::{each_seed, seeds, Dice};
-use macaroosh::judge::model::{read, report};
-use macaroosh::makers::bundles::any;
+use judge::dice::{each_seed, seeds, Dice};
+use judge::makers::bundles::any;
+use judge::model::{read, report};
 use macaroosh::{Form, ECHO};
 use reporter::reported;
 use std::collections::BTreeSet;

@@ -3,11 +3,12 @@
 
 mod reader;
 
-use macaroosh::dice::Dice;
-use macaroosh::judge::drawings::{Drawing, Text};
-use macaroosh::judge::model::{read, read_table, Bundle, Configuration, Messages, Model, Outline};
-use macaroosh::makers::{bundles, sketches};
-use macaroosh::{Form, Refusal, Step, ECHO, MOST_STEPS};
+use judge::dice::Dice;
+use judge::drawings::{Drawing, Text};
+use judge::makers::{bundles, sketches};
+use judge::model::{read, read_table, Bundle, Configuration, Messages, Model, Outline};
+use macaroosh::calls::Step;
+use macaroosh::{Form, Refusal, ECHO, MOST_STEPS};
 use reader::Json;
 use std::collections::BTreeMap;
 use std::fs;

@@ -1,13 +1,14 @@
 //! Bundles as text: what `unpack` writes `pack` reads back to the same bytes, and a mistake in a text is told where it is.
 //! `TEXTS=n` tries more than 7,500 seeds.
 
-use macaroosh::dice::{each_seed, seeds, Dice};
-use macaroosh::judge::model::read;
-use macaroosh::library::parts::Parts;
-use macaroosh::makers::bundles::{bundle, case, closed};
-use macaroosh::makers::sketches;
+use judge::dice::{each_seed, seeds, Dice};
+use judge::makers::bundles::{bundle, case, closed};
+use judge::makers::sketches;
+use judge::model::read;
+use macaroosh::calls::{run, Step};
+use macaroosh::parts::Parts;
 use macaroosh::terms::refusals;
-use macaroosh::{run, Form, Step, ECHO, MOST_WORDS};
+use macaroosh::{Form, ECHO, MOST_WORDS};
 use std::collections::{BTreeMap, BTreeSet};
 use std::fs;
 use std::io::Write;

@@ -2,13 +2,15 @@
 //! beside the run of the prefix one step shorter. `SEEDS=n` tries more than 2,000. What is stored without a change is counted by
 //! measure/written.
 
-use macaroosh::dice::{each_seed, seeds, Dice};
-use macaroosh::judge::compare::compare;
-use macaroosh::judge::fast::Fast;
-use macaroosh::judge::model::{read, Bundle, Configuration, Messages, Model, Outline};
-use macaroosh::makers::bundles::{bundle, closed, in_form};
-use macaroosh::makers::growth::{growth, places};
-use macaroosh::{Bench, Form, Library, Refusal, Step, ECHO, MOST_WORDS};
+use judge::compare::compare;
+use judge::dice::{each_seed, seeds, Dice};
+use judge::fast::Fast;
+use judge::makers::bundles::{bundle, closed, in_form};
+use judge::makers::growth::{growth, places};
+use judge::model::{read, Bundle, Configuration, Messages, Model, Outline};
+use judge::{Bench, Library};
+use macaroosh::calls::Step;
+use macaroosh::{Form, Refusal, ECHO, MOST_WORDS};
 use std::collections::BTreeMap;
 
 // The bundle that the seed names in each form, up to the first step that is refused.

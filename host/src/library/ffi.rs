@@ -41,6 +41,7 @@ mod capi {
 }
 
 /// The packed answer of a run.
+#[inline]
 pub fn run(bundle: &[u8], standing: &[u8], words: &mut [u64]) -> u64 {
     // SAFETY: each pointer and length are of one live slice, and the call is proved to stay inside of them.
     unsafe {
@@ -56,6 +57,7 @@ pub fn run(bundle: &[u8], standing: &[u8], words: &mut [u64]) -> u64 {
 }
 
 /// The packed answer of a translation.
+#[inline]
 pub fn translate(bundle: &[u8], standing: &[u8], out: &mut [u8]) -> u64 {
     // SAFETY: as above.
     unsafe {
@@ -71,6 +73,7 @@ pub fn translate(bundle: &[u8], standing: &[u8], out: &mut [u8]) -> u64 {
 }
 
 /// The packed answer of a translation to the form of a number.
+#[inline]
 pub fn translate_to(bundle: &[u8], standing: &[u8], form: u64, out: &mut [u8]) -> u64 {
     // SAFETY: as above.
     unsafe {
@@ -87,18 +90,21 @@ pub fn translate_to(bundle: &[u8], standing: &[u8], form: u64, out: &mut [u8]) -
 }
 
 /// The packed step.
+#[inline]
 pub fn first_step(bundle: &[u8], standing: &[u8]) -> u64 {
     // SAFETY: as above.
     unsafe { capi::macaroosh_first_step(bundle.as_ptr(), bundle.len(), standing.as_ptr(), standing.len()) }
 }
 
 /// The packed answer of a drawing.
+#[inline]
 pub fn draw(table: &[u8], out: &mut [u8]) -> u64 {
     // SAFETY: as above.
     unsafe { capi::macaroosh_draw(table.as_ptr(), table.len(), out.as_mut_ptr(), out.len()) }
 }
 
 /// The packed answer of a drawing's reading.
+#[inline]
 pub fn undraw(text: &[u8], out: &mut [u8]) -> u64 {
     // SAFETY: as above.
     unsafe { capi::macaroosh_undraw(text.as_ptr(), text.len(), out.as_mut_ptr(), out.len()) }

@@ -1,6 +1,6 @@
 //! The parts of a bundle that the library has read, for showing: what its bytes and its words say.
 
-use crate::terms::answer::Step;
+use crate::library::calls::Step;
 use crate::terms::form::Form;
 use std::ops::Range;
 

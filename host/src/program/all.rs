@@ -2,8 +2,9 @@
 //! says of more than its own step spares a run: 22 of a rule with any message, 24 of a message with any rule, 25 of a type from
 //! any sender.
 
-use macaroosh::library::parts::Parts;
-use macaroosh::{run, Step, MOST_STEPS, MOST_WORDS};
+use macaroosh::calls::{run, Step};
+use macaroosh::parts::Parts;
+use macaroosh::{MOST_STEPS, MOST_WORDS};
 
 /// The steps in the order of the first-step question, after a schedule that runs; or why one more can't be tried.
 pub fn possible(parts: &Parts, standing: &[u8]) -> Result<Vec<Step>, String> {

@@ -6,9 +6,10 @@ use crate::marks;
 use crate::picture;
 use crate::replies::{self, Reply};
 use crate::{show, why};
-use macaroosh::library::parts::front;
+use macaroosh::calls::{run, Answer};
+use macaroosh::parts::front;
 use macaroosh::terms::refusals::{self, Place};
-use macaroosh::{run, Answer, Refusal, ECHO, MOST_DRAWING, MOST_TABLE};
+use macaroosh::{Refusal, ECHO, MOST_DRAWING, MOST_TABLE};
 use std::path::Path;
 
 /// The drawing of a table, or an image of it, which goes to `path`; or why Graphviz gave no image.
@@ -41,7 +42,7 @@ fn drawn(
     why: &dyn Fn(Refusal) -> Vec<String>,
 ) -> Result<Reply, String> {
     let mut drawing = vec![0; MOST_DRAWING];
-    let answer = macaroosh::draw(table, &mut drawing);
+    let answer = macaroosh::calls::draw(table, &mut drawing);
     drawing.truncate(answer.count as usize);
     let (output, thing) = match image {
         Some(image) if answer.refusal == 0 => (graphviz::image(&picture::text(table), image)?, "an image"),
@@ -59,7 +60,7 @@ fn drawn(
 /// The table of a drawing, which goes to `path`.
 pub fn undraw(text: &[u8], path: Option<&Path>, plain: bool) -> Reply {
     let mut table = vec![0; MOST_TABLE];
-    let answer = macaroosh::undraw(text, &mut table);
+    let answer = macaroosh::calls::undraw(text, &mut table);
     table.truncate(answer.count as usize);
     let told = match answer.refused() {
         Some(refusal) => refused(text, refusal) + &why::of_drawing(text).map_or(String::new(), |line| line + "\n"),

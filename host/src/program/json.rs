@@ -3,9 +3,9 @@
 use crate::replies::Question;
 use crate::trace::Move;
 use crate::why;
-use macaroosh::library::parts::{Parts, Picture};
-use macaroosh::terms::refusals;
-use macaroosh::{Answer, Form, Refusal, Step};
+use macaroosh::calls::{Answer, Step};
+use macaroosh::parts::{Parts, Picture};
+use macaroosh::{Form, Refusal};
 use std::fmt::{self, Display, Formatter, Write};
 
 /// A value.
@@ -121,7 +121,7 @@ fn head(question: &Question, refusal: Option<Refusal>) -> Fields {
     let mut fields = vec![("refusal", number(refused)), ("place", number(place))];
     if let Some(refusal) = refusal {
         let lines = why::of_bundle(question.bundle, question.standing, refusal);
-        fields.push(("reason", Json::Text(refusals::reason(refusal.number).to_string())));
+        fields.push(("reason", Json::Text(refusal.reason().to_string())));
         fields.push(("why", Json::List(lines.into_iter().map(Json::Text).collect())));
     }
     fields

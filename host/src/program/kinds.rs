@@ -1,7 +1,8 @@
 //! A file that is something else than what was asked for, by the library's own answers.
 
-use macaroosh::library::parts::front;
-use macaroosh::{draw, run, undraw, ECHO, MOST_DRAWING, MOST_TABLE, MOST_WORDS};
+use macaroosh::calls::{draw, run, undraw};
+use macaroosh::parts::front;
+use macaroosh::{ECHO, MOST_DRAWING, MOST_TABLE, MOST_WORDS};
 
 /// What an input can be.
 #[derive(Clone, Copy, PartialEq, Eq)]

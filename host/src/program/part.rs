@@ -1,6 +1,6 @@
 //! Which steps of a trace are shown.
 
-use macaroosh::Step;
+use macaroosh::calls::Step;
 
 /// The steps of one board or of all, from a step and to a step, both included.
 #[derive(Clone, Copy, Debug, Default)]

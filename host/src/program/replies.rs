@@ -2,9 +2,10 @@
 
 use crate::show::{self, Style};
 use crate::{all, json, why};
-use macaroosh::library::parts::Parts;
+use macaroosh::calls::Answer;
+use macaroosh::parts::Parts;
 use macaroosh::terms::refusals;
-use macaroosh::{Answer, Form, Refusal, MOST_WORDS};
+use macaroosh::{Form, Refusal, MOST_WORDS};
 use std::path::Path;
 
 /// A bundle and the table beside it.
@@ -56,7 +57,7 @@ pub fn told(refusal: Refusal, lines: Vec<String>) -> String {
 /// The configuration that the schedule leaves.
 pub fn run(question: &Question) -> Reply {
     let mut words = [0; MOST_WORDS];
-    let answer = macaroosh::run(question.bundle, question.standing, &mut words);
+    let answer = macaroosh::calls::run(question.bundle, question.standing, &mut words);
     let parts = Parts::of(question.bundle, question.standing).filter(|_| answer.left_a_configuration());
     let output = match (question.style, &parts) {
         (Style::Json, _) => json::run(question, answer, parts.as_ref().map(|parts| (parts, &words[..]))),
@@ -73,8 +74,8 @@ pub fn translate(question: &Question, to: Option<Form>, path: Option<&Path>) -> 
     let Question { bundle, standing, .. } = *question;
     let mut output = vec![0; bundle.len()];
     let answer = match to {
-        Some(form) => macaroosh::translate_to(bundle, standing, u64::from(form.number()), &mut output),
-        None => macaroosh::translate(bundle, standing, &mut output),
+        Some(form) => macaroosh::calls::translate_to(bundle, standing, u64::from(form.number()), &mut output),
+        None => macaroosh::calls::translate(bundle, standing, &mut output),
     };
     output.truncate(answer.count as usize);
     let told = match answer.refused() {
@@ -90,7 +91,7 @@ pub fn translate(question: &Question, to: Option<Form>, path: Option<&Path>) -> 
 
 /// The first possible step.
 pub fn first(question: &Question) -> Reply {
-    let first = macaroosh::first_step(question.bundle, question.standing);
+    let first = macaroosh::calls::first_step(question.bundle, question.standing);
     let parts = Parts::of(question.bundle, question.standing).filter(|_| first.is_ok());
     let output = match (question.style, first, &parts) {
         (Style::Json, ..) => json::first(question, parts.as_ref(), first),
@@ -103,7 +104,7 @@ pub fn first(question: &Question) -> Reply {
 
 /// All possible steps, or why they can't be tried; what is refused is so as by `first`.
 pub fn all(question: &Question) -> Result<Reply, String> {
-    let parts = match macaroosh::first_step(question.bundle, question.standing) {
+    let parts = match macaroosh::calls::first_step(question.bundle, question.standing) {
         Ok(_) => Parts::of(question.bundle, question.standing),
         Err(_) => None,
     };

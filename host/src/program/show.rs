@@ -1,8 +1,9 @@
 //! Answers as people read them, and as programs do.
 
 use crate::names::shown;
-use macaroosh::library::parts::{Parts, Picture};
-use macaroosh::{Answer, First, Form, Refusal, Step};
+use macaroosh::calls::{Answer, First, Step};
+use macaroosh::parts::{Parts, Picture};
+use macaroosh::{Form, Refusal};
 use std::path::Path;
 
 /// Whom an answer is for.

@@ -5,8 +5,9 @@ use crate::json;
 use crate::part::Part;
 use crate::replies::{Question, Reply};
 use crate::show::{self, Style};
-use macaroosh::library::parts::{Parts, Picture};
-use macaroosh::{run, translate_to, Form, Step, MOST_WORDS};
+use macaroosh::calls::{run, translate_to, Step};
+use macaroosh::parts::{Parts, Picture};
+use macaroosh::{Form, MOST_WORDS};
 
 /// A part of the trace of a bundle, up to a step that is refused.
 pub fn reply(question: &Question, part: Part) -> Reply {

@@ -3,8 +3,9 @@
 
 use crate::kinds::{self, Kind};
 use crate::show::{counted, listed, message_of, sender};
-use macaroosh::library::parts::{distance, front, Parts};
-use macaroosh::{run, Form, Refusal, Step, MOST_WORDS};
+use macaroosh::calls::{run, Step};
+use macaroosh::parts::{distance, front, Parts};
+use macaroosh::{Form, Refusal, MOST_WORDS};
 
 /// The lines below the refusal of a bundle.
 pub fn of_bundle(bundle: &[u8], standing: &[u8], refusal: Refusal) -> Vec<String> {

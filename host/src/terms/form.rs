@@ -1,7 +1,7 @@
 //! The forms of a schedule by number, name and layout: what the last byte of a bundle says.
 
 /// A form.
-#[derive(Clone, Copy, Debug, PartialEq, Eq, PartialOrd, Ord)]
+#[derive(Clone, Copy, Debug, PartialEq, Eq, PartialOrd, Ord, Hash)]
 pub enum Form {
     /// Sources are senders, and boards keep sets of them.
     Message,
@@ -16,8 +16,14 @@ impl Form {
     pub const ALL: [Form; 3] = [Form::Message, Form::Counting, Form::Plain];
 
     /// The form of a number, which is compared as a whole.
+    #[inline]
     pub fn of(number: u64) -> Option<Form> {
         Form::ALL.into_iter().find(|form| u64::from(form.number()) == number)
+    }
+
+    /// The form that a bundle's last byte names.
+    pub fn of_bundle(bundle: &[u8]) -> Option<Form> {
+        bundle.last().and_then(|&number| Form::of(u64::from(number)))
     }
 
     /// The form of a name.
@@ -26,6 +32,7 @@ impl Form {
     }
 
     /// Its number.
+    #[inline]
     pub fn number(self) -> u8 {
         self as u8
     }
@@ -40,6 +47,7 @@ impl Form {
     }
 
     /// How many words it has for what a board has received of one type.
+    #[inline]
     pub fn wide(self) -> usize {
         match self {
             Form::Message | Form::Plain => 1,
@@ -48,6 +56,7 @@ impl Form {
     }
 
     /// What a translation goes to where no form is asked for.
+    #[inline]
     pub fn other(self) -> Form {
         match self {
             Form::Message | Form::Plain => Form::Counting,

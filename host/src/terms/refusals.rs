@@ -1,6 +1,40 @@
 //! The outline's table of refusals in words, with those of drawings.
 
-use crate::terms::answer::Refusal;
+use std::error::Error;
+use std::fmt::{self, Display, Formatter};
+
+/// A refusal's number and its place. It displays as `refused 24 at step 4: the message is not in transit`.
+#[derive(Clone, Copy, Debug, PartialEq, Eq, Hash)]
+pub struct Refusal {
+    /// The number in the outline's table.
+    pub number: u8,
+    /// The state, rule, board, step or byte; 0 where none is named.
+    pub place: u32,
+}
+
+impl Refusal {
+    /// What its place counts.
+    pub fn counts(self) -> Place {
+        of(self.number).map_or(Place::None, |line| line.place)
+    }
+
+    /// When it is given, in words.
+    pub fn reason(self) -> &'static str {
+        of(self.number).map_or("a number that the outline does not name", |line| line.when)
+    }
+}
+
+impl Display for Refusal {
+    fn fmt(&self, to: &mut Formatter) -> fmt::Result {
+        let Refusal { number, place } = self;
+        match self.counts().name() {
+            Some(name) => write!(to, "refused {number} at {name} {place}: {}", self.reason()),
+            None => write!(to, "refused {number}: {}", self.reason()),
+        }
+    }
+}
+
+impl Error for Refusal {}
 
 /// What a refusal's place counts, always from 0.
 #[derive(Clone, Copy, Debug, PartialEq, Eq)]
@@ -17,6 +51,20 @@ pub enum Place {
     Step,
     /// A byte of a drawing's text.
     Byte,
+}
+
+impl Place {
+    /// What it counts in a word, if it names a place.
+    pub fn name(self) -> Option<&'static str> {
+        match self {
+            Place::None => None,
+            Place::State => Some("state"),
+            Place::Rule => Some("rule"),
+            Place::Board => Some("board"),
+            Place::Step => Some("step"),
+            Place::Byte => Some("byte"),
+        }
+    }
 }
 
 /// A line of the table.
@@ -79,21 +127,7 @@ pub fn of(number: u8) -> Option<&'static Line> {
     ALL.iter().find(|line| line.number == number)
 }
 
-/// When a number is given, in words.
-pub fn reason(number: u8) -> &'static str {
-    of(number).map_or("a number that the outline does not name", |line| line.when)
-}
-
 /// The refusal in words, as `refused 24 at step 4: the message is not in transit`.
 pub fn told(refusal: Refusal) -> String {
-    let Refusal { number, place } = refusal;
-    let when = reason(number);
-    match of(number).map_or(Place::None, |line| line.place) {
-        Place::None => format!("refused {number}: {when}"),
-        Place::State => format!("refused {number} at state {place}: {when}"),
-        Place::Rule => format!("refused {number} at rule {place}: {when}"),
-        Place::Board => format!("refused {number} at board {place}: {when}"),
-        Place::Step => format!("refused {number} at step {place}: {when}"),
-        Place::Byte => format!("refused {number} at byte {place}: {when}"),
-    }
+    refusal.to_string()
 }

@@ -1,6 +1,7 @@
 //! The table of figures, tests/figures.txt of the repository, whose head says how it is written. What is no line of it panics.
 
-use macaroosh::{Answer, First, Step, ECHO};
+use macaroosh::calls::{Answer, First, Step};
+use macaroosh::ECHO;
 use std::collections::BTreeMap;
 use std::fmt::Debug;
 use std::str::FromStr;

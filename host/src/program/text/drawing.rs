@@ -2,7 +2,8 @@
 
 use super::wrong::Wrong;
 use crate::draw;
-use macaroosh::{undraw, MOST_TABLE};
+use macaroosh::calls::undraw;
+use macaroosh::MOST_TABLE;
 
 /// The table of the drawing that begins at a byte of the text, and the byte after its closing brace, which is the first.
 pub fn table(text: &str, from: usize) -> Result<(Vec<u8>, usize), Wrong> {

@@ -7,8 +7,9 @@ use super::wrote;
 use crate::marks;
 use crate::replies::{self, Reply};
 use crate::{show, why};
+use macaroosh::calls::{run, Answer};
 use macaroosh::terms::refusals;
-use macaroosh::{run, Answer, Refusal, MOST_WORDS};
+use macaroosh::{Refusal, MOST_WORDS};
 use std::path::Path;
 
 /// The bundle of a text, which goes to `path`, or why there is none.

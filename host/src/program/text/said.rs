@@ -4,7 +4,8 @@ use super::drawing;
 use super::lines::{Line, Lines};
 use super::wrong::{Mistake, Wrong};
 use super::TAGS;
-use macaroosh::{Form, Step};
+use macaroosh::calls::Step;
+use macaroosh::Form;
 
 const MOST_STEPS: usize = 4_096;
 

@@ -4,8 +4,9 @@ use super::{wrote, TAGS};
 use crate::replies::{self, Question, Reply};
 use crate::show::Style;
 use crate::why;
-use macaroosh::library::parts::Parts;
-use macaroosh::{draw, run, Answer, Form, Step, MOST_DRAWING, MOST_WORDS};
+use macaroosh::calls::{draw, run, Answer, Step};
+use macaroosh::parts::Parts;
+use macaroosh::{Form, MOST_DRAWING, MOST_WORDS};
 use std::path::Path;
 
 /// The text, which goes to `path`, or the refusal.

@@ -1,7 +1,7 @@
 //! Why a text gives no bundle.
 
 use crate::marks;
-use macaroosh::Answer;
+use macaroosh::calls::Answer;
 
 /// Why a text gives no bundle.
 #[derive(Debug)]

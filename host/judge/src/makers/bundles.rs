@@ -1,10 +1,10 @@
 //! Bundles for tests: made by walking the model, damaged, or noise; the same for the same seed.
 
+use crate::bench::Bench;
 use crate::dice::Dice;
-use crate::judge::model::{read, Bundle, Configuration, Model, Outline};
-use crate::terms::answer::{Answer, Bench, Step};
-use crate::terms::echo::ECHO;
-use crate::terms::form::Form;
+use crate::model::{read, Bundle, Configuration, Model, Outline};
+use macaroosh::calls::{Answer, Step};
+use macaroosh::{Form, ECHO};
 
 /// A distance of a trailer.
 pub fn little_endian(number: usize) -> [u8; 2] {

@@ -1,5 +1,7 @@
 //! What the questions answer, whoever is asked: the outline's "Numbers given back".
 
+use crate::terms::refusals::Refusal;
+
 /// What a run, a translation or a drawing answers.
 #[derive(Clone, Copy, Debug, PartialEq, Eq)]
 pub struct Answer {
@@ -17,19 +19,15 @@ impl Answer {
         (self.refusal != 0).then_some(Refusal { number: self.refusal, place: self.place })
     }
 
+    /// The count, or the refusal.
+    pub fn result(self) -> Result<usize, Refusal> {
+        self.refused().map_or(Ok(self.count as usize), Err)
+    }
+
     /// Whether steps were looked at, so that the configuration after the accepted ones is left.
     pub fn left_a_configuration(self) -> bool {
         self.refusal == 0 || (20..30).contains(&self.refusal)
     }
-}
-
-/// A refusal's number and its place.
-#[derive(Clone, Copy, Debug, PartialEq, Eq)]
-pub struct Refusal {
-    /// The number in the outline's table.
-    pub number: u8,
-    /// The state, rule, board, step or byte; 0 where none is named.
-    pub place: u32,
 }
 
 /// What the first-step question answers.
@@ -50,42 +48,21 @@ pub struct Step {
 
 impl Step {
     /// The step of a record.
+    #[inline]
     pub fn of(record: [u8; 4]) -> Step {
         let [board, rule, kind, source] = record;
         Step { board, rule, kind, source }
     }
 
     /// Its record.
+    #[inline]
     pub fn record(self) -> [u8; 4] {
         [self.board, self.rule, self.kind, self.source]
     }
 
     /// Whether it receives nothing.
+    #[inline]
     pub fn silent(self) -> bool {
         (self.kind, self.source) == (255, 255)
     }
-}
-
-/// Whoever answers the three questions about a bundle: the library, the model, or a broken variant of it.
-pub trait Bench {
-    /// Runs a bundle beside a standing table and leaves the configuration in the lent words.
-    fn run(&self, bundle: &[u8], standing: &[u8], words: &mut [u64]) -> Answer;
-
-    /// Writes the bundle in the other form to the lent bytes: message and plain to counting, counting to message.
-    fn translate(&self, bundle: &[u8], standing: &[u8], out: &mut [u8]) -> Answer;
-
-    /// Writes the bundle in the form of that number to the lent bytes.
-    fn translate_to(&self, bundle: &[u8], standing: &[u8], form: u64, out: &mut [u8]) -> Answer;
-
-    /// The first possible step after the whole schedule; a wait is none.
-    fn first_step(&self, bundle: &[u8], standing: &[u8]) -> First;
-}
-
-/// Whoever writes tables as drawings and reads those: the library, the model, or a broken variant of it.
-pub trait Draws {
-    /// Writes the drawing of a table part to the lent bytes.
-    fn draw(&self, table: &[u8], out: &mut [u8]) -> Answer;
-
-    /// Writes the table that a text draws to the lent bytes.
-    fn undraw(&self, text: &[u8], out: &mut [u8]) -> Answer;
 }

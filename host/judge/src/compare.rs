@@ -1,10 +1,11 @@
 //! Two benches on one bundle, table or drawing: every answer, and every lent word and byte.
 
+use crate::bench::{Bench, Draws};
 use crate::dice::Dice;
-use crate::judge::drawings::{Drawing, Text};
-use crate::judge::model::{read, read_table, Model};
-use crate::terms::answer::{Answer, Bench, Draws, First};
-use crate::terms::form::Form;
+use crate::drawings::{Drawing, Text};
+use crate::model::{read, read_table, Model};
+use macaroosh::calls::{Answer, First};
+use macaroosh::Form;
 use std::fmt::Debug;
 
 /// What two benches answered alike.

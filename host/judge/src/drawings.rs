@@ -1,8 +1,10 @@
 //! Drawings of a table, read aloud: the text that is written for a table, and a reader that takes bytes one by one for as
 //! long as some drawing goes on so. It calls nothing that it judges.
 
-use crate::judge::model::{nothing_done, read_table, refused, Model, Rule, Table};
-use crate::terms::answer::{Answer, Draws, Refusal};
+use crate::bench::Draws;
+use crate::model::{nothing_done, read_table, refused, Model, Rule, Table};
+use macaroosh::calls::Answer;
+use macaroosh::Refusal;
 use std::ops::RangeInclusive;
 
 /// What a text draws, by its records; only some of it is a table.

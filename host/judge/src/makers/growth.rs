@@ -1,11 +1,10 @@
 //! What one step costs, whatever the number of boards: pairs of bundles that differ by their last step only, and the words
 //! that a step writes. The model has accepted every step.
 
-use crate::judge::model::{read, Bundle, Model, Outline};
 use crate::makers::bundles::{closed, in_form, little_endian};
-use crate::terms::answer::Step;
-use crate::terms::echo::ECHO;
-use crate::terms::form::Form;
+use crate::model::{read, Bundle, Model, Outline};
+use macaroosh::calls::Step;
+use macaroosh::{Form, ECHO};
 
 /// The numbers of correct boards that are measured.
 pub const BOARDS: [usize; 3] = [1, 16, 64];

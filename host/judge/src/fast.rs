@@ -1,8 +1,8 @@
 //! The same questions by hand, for speed: rules decoded once with their thresholds, sets in words, nothing allocated.
 
-use crate::terms::answer::{Answer, Bench, First, Refusal, Step};
-use crate::terms::form::Form;
-use crate::terms::sizes::MOST_WORDS;
+use crate::bench::Bench;
+use macaroosh::calls::{Answer, First, Step};
+use macaroosh::{Form, Refusal, MOST_WORDS};
 
 // The forms as parameters of code that is made for each.
 const MESSAGE: u8 = Form::Message as u8;

@@ -1,11 +1,10 @@
 //! The bundles that speed is measured on, all read beside the echo table. The model has accepted each of their steps.
 
 use crate::dice::Dice;
-use crate::judge::model::{read, Bundle, Configuration, Model, Outline};
 use crate::makers::bundles::{closed, in_form, little_endian};
-use crate::terms::answer::Step;
-use crate::terms::echo::ECHO;
-use crate::terms::form::Form;
+use crate::model::{read, Bundle, Configuration, Model, Outline};
+use macaroosh::calls::Step;
+use macaroosh::{Form, ECHO};
 
 /// A bundle to measure with.
 pub struct Case {

@@ -1,9 +1,8 @@
 //! The outline, read aloud: bundles are vectors, sets are sets, and nothing is clever. It calls nothing that it judges.
 
-use crate::terms::answer::{Answer, Bench, First, Refusal, Step};
-use crate::terms::echo::ECHO;
-use crate::terms::form::Form;
-use crate::terms::sizes::MOST_BYTES;
+use crate::bench::Bench;
+use macaroosh::calls::{Answer, First, Step};
+use macaroosh::{Form, Refusal, ECHO, MOST_BYTES};
 use std::collections::BTreeSet;
 use std::ops::Range;
 

@@ -2,9 +2,9 @@
 //! same seed.
 
 use crate::dice::Dice;
-use crate::judge::drawings::{Drawing, Text};
-use crate::judge::model::{read_table, Model, Rule};
+use crate::drawings::{Drawing, Text};
 use crate::makers::bundles;
+use crate::model::{read_table, Model, Rule};
 
 /// A table part of any kind.
 pub fn table(dice: &mut Dice) -> Vec<u8> {

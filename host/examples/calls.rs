@@ -1,0 +1,41 @@
+use macaroosh::{draw, first_step, run, run_into, translate, undraw};
+use macaroosh::{Form, Message, Refusal, Sender, Step, ECHO, MOST_WORDS};
+
+fn main() -> Result<(), Refusal> {
+    // Schedule W of the outline: three correct boards and a faulty one, read beside the echo table.
+    let w = [1, 1, 1, 0, 3, 255, 255, 1, 3, 255, 255, 2, 3, 0, 0, 2, 4, 0, 3, 2, 5, 0, 1, 20, 0, 23, 0, 4, 1, 1, 0];
+
+    // Board 2 has two echoes (type 0) of correct boards and one of a faulty board, and accepts in state 3.
+    let ran = run(&w, &ECHO)?;
+    assert_eq!(ran.steps, 5);
+    let left = ran.configuration;
+    assert_eq!((left.state(2), left.correct(2, 0), left.faulty(2, 0)), (Some(3), Some(2), Some(1)));
+    assert_eq!(left.sent(0), Some(3));
+
+    // Then the first possible step is that board 0 hears its own echo by rule 4.
+    let own = Message { kind: 0, from: Sender::Board(0) };
+    assert_eq!(first_step(&w, &ECHO)?, Some(Step { board: 0, rule: 4, message: Some(own) }));
+
+    // If the last echo is board 0's once more, that step is refused. The error has the run of the steps before it.
+    let mut twice = w;
+    twice[22] = 0;
+    let refused = run(&twice, &ECHO).unwrap_err();
+    assert_eq!(refused.to_string(), "refused 24 at step 4: the message is not in transit");
+    assert_eq!(refused.before.map(|run| run.steps), Some(4));
+
+    // W in plain form: as many messages, and no word of who sent them.
+    let plain = translate(&w, &ECHO, Form::Plain)?;
+    let left = run(&plain, &ECHO)?.configuration;
+    assert_eq!((left.received(2, 0), left.correct(2, 0)), (Some(3), None));
+
+    // The echo table as a drawing, and back.
+    let drawing = draw(&ECHO)?;
+    assert!(drawing.starts_with("digraph t {\nT=1; k=3;\ns0 [label=\"1 0\"];\n"));
+    assert_eq!(undraw(&drawing)?, ECHO);
+
+    // With lent memory nothing is allocated; in message form a word is a set of senders.
+    let mut words = [0; MOST_WORDS];
+    assert_eq!(run_into(&w, &ECHO, &mut words)?, 5);
+    assert_eq!(words[..7], [2, 2, 3, 0, 0, 0b1011, 0b111]);
+    Ok(())
+}

@@ -1,0 +1,27 @@
+//! Whoever is judged, or judges.
+
+use macaroosh::calls::{Answer, First};
+
+/// Whoever answers the three questions about a bundle: the library, the model, or a broken variant of it.
+pub trait Bench {
+    /// Runs a bundle beside a standing table and leaves the configuration in the lent words.
+    fn run(&self, bundle: &[u8], standing: &[u8], words: &mut [u64]) -> Answer;
+
+    /// Writes the bundle in the other form to the lent bytes: message and plain to counting, counting to message.
+    fn translate(&self, bundle: &[u8], standing: &[u8], out: &mut [u8]) -> Answer;
+
+    /// Writes the bundle in the form of that number to the lent bytes.
+    fn translate_to(&self, bundle: &[u8], standing: &[u8], form: u64, out: &mut [u8]) -> Answer;
+
+    /// The first possible step after the whole schedule; a wait is none.
+    fn first_step(&self, bundle: &[u8], standing: &[u8]) -> First;
+}
+
+/// Whoever writes tables as drawings and reads those: the library, the model, or a broken variant of it.
+pub trait Draws {
+    /// Writes the drawing of a table part to the lent bytes.
+    fn draw(&self, table: &[u8], out: &mut [u8]) -> Answer;
+
+    /// Writes the table that a text draws to the lent bytes.
+    fn undraw(&self, text: &[u8], out: &mut [u8]) -> Answer;
+}

@@ -1,0 +1,16 @@
+//! The judge: the outline read aloud, the same by hand and fast, the comparison of two benches, and the makers of what they are
+//! compared on. None of it calls the library, but for `Library`, which stands for that.
+#![forbid(unsafe_code)]
+#![warn(missing_docs)]
+
+mod bench;
+pub mod compare;
+pub mod dice;
+pub mod drawings;
+pub mod fast;
+mod library;
+pub mod makers;
+pub mod model;
+
+pub use bench::{Bench, Draws};
+pub use library::Library;

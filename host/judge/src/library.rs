@@ -1,0 +1,35 @@
+//! The proved library among the benches.
+
+use crate::bench::{Bench, Draws};
+use macaroosh::calls::{self, Answer, First};
+
+/// The proved library as one of those that are compared.
+pub struct Library;
+
+impl Bench for Library {
+    fn run(&self, bundle: &[u8], standing: &[u8], words: &mut [u64]) -> Answer {
+        calls::run(bundle, standing, words)
+    }
+
+    fn translate(&self, bundle: &[u8], standing: &[u8], out: &mut [u8]) -> Answer {
+        calls::translate(bundle, standing, out)
+    }
+
+    fn translate_to(&self, bundle: &[u8], standing: &[u8], form: u64, out: &mut [u8]) -> Answer {
+        calls::translate_to(bundle, standing, form, out)
+    }
+
+    fn first_step(&self, bundle: &[u8], standing: &[u8]) -> First {
+        calls::first_step(bundle, standing)
+    }
+}
+
+impl Draws for Library {
+    fn draw(&self, table: &[u8], out: &mut [u8]) -> Answer {
+        calls::draw(table, out)
+    }
+
+    fn undraw(&self, text: &[u8], out: &mut [u8]) -> Answer {
+        calls::undraw(text, out)
+    }
+}

@@ -1,0 +1,57 @@
+//! The proved library's calls with lent memory and the exact numbers of the C header: for whoever compares every number. The
+//! calls at the crate's root say the same in types. All are inlined, so that a measured call costs the same from any package.
+
+use crate::library::ffi;
+use crate::terms::refusals::Refusal;
+
+pub use crate::library::answer::{Answer, First, Step};
+
+/// Runs a bundle beside a standing table; the configuration is left in the lent words, of which `MOST_WORDS` are enough.
+#[inline]
+pub fn run(bundle: &[u8], standing: &[u8], words: &mut [u64]) -> Answer {
+    unpacked(ffi::run(bundle, standing, words))
+}
+
+/// Writes the bundle in the other form, message and plain to counting and counting to message; as many bytes as the bundle
+/// has are enough.
+#[inline]
+pub fn translate(bundle: &[u8], standing: &[u8], out: &mut [u8]) -> Answer {
+    unpacked(ffi::translate(bundle, standing, out))
+}
+
+/// Writes the bundle in the form of that number, 0 message, 1 counting, 2 plain; as many bytes as the bundle has are enough.
+/// Its own form and any other number are refused.
+#[inline]
+pub fn translate_to(bundle: &[u8], standing: &[u8], form: u64, out: &mut [u8]) -> Answer {
+    unpacked(ffi::translate_to(bundle, standing, form, out))
+}
+
+/// The first possible step after the whole schedule, or none where no step but waits is accepted. A wait has no message, and
+/// its rule has from = to.
+#[inline]
+pub fn first_step(bundle: &[u8], standing: &[u8]) -> First {
+    let packed = ffi::first_step(bundle, standing);
+    let [number, low, high, given, board, rule, kind, source] = packed.to_le_bytes();
+    if number != 0 {
+        return Err(Refusal { number, place: u32::from(u16::from_le_bytes([low, high])) });
+    }
+    Ok(if given & 1 == 1 { Some(Step { board, rule, kind, source }) } else { None })
+}
+
+/// Writes a table part as a drawing in Graphviz's DOT language; `MOST_DRAWING` bytes are enough.
+#[inline]
+pub fn draw(table: &[u8], out: &mut [u8]) -> Answer {
+    unpacked(ffi::draw(table, out))
+}
+
+/// Writes the table part that a text draws; `MOST_TABLE` bytes are enough.
+#[inline]
+pub fn undraw(text: &[u8], out: &mut [u8]) -> Answer {
+    unpacked(ffi::undraw(text, out))
+}
+
+// The refusal in bits 0 to 7, the place in bits 8 to 31, the count in bits 32 to 63.
+#[inline]
+fn unpacked(packed: u64) -> Answer {
+    Answer { refusal: packed as u8, place: packed as u32 >> 8, count: (packed >> 32) as u32 }
+}
