@@ -12,14 +12,7 @@ pub correct-in-spec : {M : Type 1} → statement M
 correct-in-spec =
     tie.close
     (tie.spec
-    (λ c κs. search needs) (λ c κs. search needs) (λ c. search needs)
-    -- shared-slice-read-from-correct
-    (λ c. let st = c .before .before .before .before in
-    omega (arith, st .pre .2, wide-some (st .args .s .level) .0, c .before .before .cell-at .ensures .1))
-    (λ c. search needs)
-    -- shared-slice-read-from-correct-2
-    (λ c. let st = c .before .before .before .before .before in
-    omega (arith, st .pre .2, c .before .before .last-of .ensures .1, c .before .before .before .cell-at .ensures .1))
+    (λ c κs. search needs) (λ c κs. search needs) (λ c. search needs) (λ c. search needs) (λ c. search needs) (λ c. search needs)
     -- from-correct-requires
     (λ c κs. c .before .before .before .before .before .pre .0 .boards)
     -- returns

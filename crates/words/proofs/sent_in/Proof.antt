@@ -3,6 +3,7 @@ use mathlib.Core.Path.{ap, _∙_}
 use Prim.Native.Nat.{ℕ}
 use native.Mathlib.Omega.{arith}
 use borrow.Author.Needs.{needs}
+use Rattle.paper.specs.Words.{size, sentAt}
 use Rattle.words.proofs.LevelCases.{told-word}
 use Rattle.words.proofs.PlaceLaws.{sent-in-room, sent-word}
 use Rattle.words.specs.Words.{fromCorrect}
@@ -11,13 +12,11 @@ use Rattle.words.proofs.sent_in.Statement.{statement}
 use Rattle.words.proofs.sent_in.Tie as tie
 
 pub sent-in-spec : {M : Type 1} → statement M
+unfolding sentAt size
 sent-in-spec =
     tie.close
     (tie.spec
-    (λ c κs. search needs) (λ c. search needs)
-    -- shared-slice-read-from-correct
-    (λ c. let st = c .before .before .before in
-    omega (arith, st .pre .2, c .before .sent-at .ensures .0, sent-in-room (st .args .s) (st .args .m) (st .pre .1)))
+    (λ c κs. search needs) (λ c. search needs) (λ c. search needs)
     -- from-correct-requires
     (λ c κs. c .before .before .before .pre .0 .boards)
     -- returns
