@@ -12,9 +12,7 @@ pub correct-in-spec : {M : Type 1} → statement M
 correct-in-spec =
     tie.close
     (tie.spec
-    (λ c κs. search needs) (λ c κs. search needs) (λ c. search needs) (λ c. search needs) (λ c. search needs) (λ c. search needs)
-    -- from-correct-requires
-    (λ c κs. c .before .before .before .before .before .pre .0 .boards)
+    (λ c κs. search needs) (λ c κs. search needs) (λ c. search needs) (λ c. search needs) (λ c. search needs) (λ c. search needs) (λ c κs. search needs)
     -- returns
     (λ c. let last = c .before .before .before in let first = last .before in let a = first .before .before .args in
     let s = a .s in

@@ -16,9 +16,7 @@ unfolding sentAt size
 sent-in-spec =
     tie.close
     (tie.spec
-    (λ c κs. search needs) (λ c. search needs) (λ c. search needs)
-    -- from-correct-requires
-    (λ c κs. c .before .before .before .pre .0 .boards)
+    (λ c κs. search needs) (λ c. search needs) (λ c. search needs) (λ c κs. search needs)
     -- returns
     (λ c. let place = c .before .before in let a = place .before .before .args in
     let s = a .s in
