@@ -9,13 +9,6 @@ pub steps-spec : {M : Type 1} → statement M
 steps-spec =
     tie.close
     (tie.spec
-    (λ c κs. search needs) (λ c κs. search needs)
-    -- add-end
-    (λ c. omega arith)
-    (λ c. search needs)
-    -- part-result-start
-    (λ c. omega arith)
-    -- part-result-end
-    (λ c. omega arith)
+    (λ c κs. search needs) (λ c κs. search needs) (λ c. search needs) (λ c. search needs) (λ c. search needs) (λ c. search needs)
     -- returns
     (λ c. search steps-are))
