@@ -1,5 +1,4 @@
 -- What is cut after the start bytes, as long as the trailer says, is `stepsOf`; it ends where the trailer begins.
-use native.Mathlib.Omega.{arith}
 use borrow.Author.Needs.{needs}
 use Rattle.bundle.proofs.BundleLaws.{steps-are}
 use Rattle.bundle.proofs.steps.Statement.{statement}

@@ -1,10 +1,8 @@
 -- The first and the last word of the cell show its collection, and the level counts that; both words are inside the configuration.
 use mathlib.Core.Path.{ap, _∙_}
-use native.Mathlib.Omega.{arith}
 use borrow.Author.Needs.{needs}
 use Rattle.words.proofs.PlaceLaws.{coll-words}
 use Rattle.words.specs.Words.{columnIn}
-use Rattle.paper.proofs.FormLaws.{wide-some}
 use Rattle.words.proofs.count.Statement.{statement}
 use Rattle.words.proofs.count.Tie as tie
 

@@ -1,10 +1,8 @@
 -- The two words that are read are the first and the last of the cell, which show all of it.
 use mathlib.Core.Path.{ap, _∙_}
-use native.Mathlib.Omega.{arith}
 use borrow.Author.Needs.{needs}
 use Rattle.words.proofs.PlaceLaws.{coll-words}
 use Rattle.words.specs.Words.{fromFaulty}
-use Rattle.paper.proofs.FormLaws.{wide-some}
 use Rattle.words.proofs.faulty_in.Statement.{statement}
 use Rattle.words.proofs.faulty_in.Tie as tie
 

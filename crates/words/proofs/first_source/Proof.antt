@@ -1,12 +1,10 @@
 -- The cell's two words and the sent word show what was received and sent; the level's lowest source goes by these.
 use mathlib.Core.Path.{ap, ap₂, _∙_}
-use native.Mathlib.Omega.{arith}
 use borrow.Author.Needs.{needs}
 use Rattle.senders.specs.Tally.{least}
 use Rattle.paper.specs.Words.{size, sentAt}
-use Rattle.words.proofs.PlaceLaws.{coll-words, sent-in-room, sent-word}
+use Rattle.words.proofs.PlaceLaws.{coll-words, sent-word}
 use Rattle.words.specs.Words.{columnIn}
-use Rattle.paper.proofs.FormLaws.{wide-some}
 use Rattle.paper.specs.Form.{wide, shown}
 use Rattle.words.proofs.first_source.Statement.{statement}
 use Rattle.words.proofs.first_source.Tie as tie

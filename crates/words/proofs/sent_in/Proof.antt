@@ -1,11 +1,10 @@
 -- The word that is read is the sent word, which counts as the first word of a cell does.
 use mathlib.Core.Path.{ap, _∙_}
 use Prim.Native.Nat.{ℕ}
-use native.Mathlib.Omega.{arith}
 use borrow.Author.Needs.{needs}
 use Rattle.paper.specs.Words.{size, sentAt}
 use Rattle.words.proofs.LevelCases.{told-word}
-use Rattle.words.proofs.PlaceLaws.{sent-in-room, sent-word}
+use Rattle.words.proofs.PlaceLaws.{sent-word}
 use Rattle.words.specs.Words.{fromCorrect}
 use Rattle.paper.specs.Form.{wide, shown}
 use Rattle.words.proofs.sent_in.Statement.{statement}

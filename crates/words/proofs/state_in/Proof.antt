@@ -1,6 +1,5 @@
 -- The states are the first words.
 use mathlib.Core.Path.{refl}
-use native.Mathlib.Omega.{arith}
 use borrow.Author.Needs.{needs}
 use Rattle.paper.specs.Words.{size, state}
 use Rattle.words.proofs.state_in.Statement.{statement}

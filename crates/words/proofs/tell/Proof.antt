@@ -2,7 +2,6 @@
 use native.Mathlib.Omega.{arith}
 use borrow.Author.Needs.{needs}
 use Rattle.words.proofs.LevelCases.{bump-own}
-use Rattle.words.proofs.PlaceLaws.{sent-in-room}
 use Rattle.paper.specs.Words.{sent, size, sentAt}
 use Rattle.words.proofs.tell.Statement.{statement}
 use Rattle.words.proofs.tell.Tie as tie
