@@ -173,14 +173,17 @@ module _ (k : ℕ) (d : Design) (w : List ℕ) (s : Step) where
         met = every-each (d .types) _ (not-false _ (g .0));
       }
 
-  pub not-refused : Accepted k d w s → stepFault k d w s ≡ 0
-  unfolding stepFault malformed notInTransit notMet
-  not-refused A =
-      let B = A .arrives in
+  -- where the first five checks pass, the sixth is left
+  pub sixth : Arrives k d w s → stepFault k d w s ≡ (25 if notMet k d w s else 0)
+  unfolding stepFault malformed notInTransit
+  sixth B =
       sym (
       if-no 20 refl (lt-leb _ _ (B .board)) (if-no 21 refl (lt-leb _ _ (B .rule)) (if-no 22 refl (ap not (eq-eqb _ _ (B .leaves)))
-      (if-no 23 refl (formed k d w (s .board) (kindOf s) (hears-of B)) (if-no 24 refl (coming k d w (s .board) (kindOf s) (hears-of B))
-      (if-no 25 refl (ap not (every-made (d .types) _ (A .met))) refl))))))
+      (if-no 23 refl (formed k d w (s .board) (kindOf s) (hears-of B)) (if-no 24 refl (coming k d w (s .board) (kindOf s) (hears-of B)) refl)))))
+
+  pub not-refused : Accepted k d w s → stepFault k d w s ≡ 0
+  unfolding notMet
+  not-refused A = sixth (A .arrives) ∙ sym (if-no 25 refl (ap not (every-made (d .types) _ (A .met))) refl)
 
   pub step-most : stepFault k d w s ≤ 25
   unfolding stepFault

@@ -13,12 +13,12 @@ use Rattle.senders.specs.Tally.{count, least}
 use Rattle.senders.proofs.TallyLaws.{every-same, least-first, least-found, count-only}
 use Rattle.fault.specs.Tests.{_atLeast_, _differs_}
 use Rattle.fault.specs.Fault.{_if_else_}
-use Rattle.paper.specs.Paper.{Design, Step, Kind, silence, message, kindOf, newly, silent}
+use Rattle.paper.specs.Paper.{Design, Step, newly, silent}
 use Rattle.paper.specs.Words.{sentAt, cell, sent, hear, tell, state}
 use Rattle.paper.specs.Form.{wide, bump}
-use Rattle.paper.specs.Step.{receipt, heard, stepped, outOfRange, malformed, notComing, notInTransit, notMet, stepFault}
+use Rattle.paper.specs.Step.{heard, stepped, malformed, notInTransit, notMet, stepFault}
 use Rattle.paper.proofs.WordLaws.{tell-none, tell-one}
-use Rattle.paper.proofs.StepLaws.{accepted, length-heard, heard-silent, heard-message}
+use Rattle.paper.proofs.StepLaws.{accepted, malformed-if, transit-if, heard-if, length-heard, heard-silent, heard-message}
 use Rattle.words.specs.declared.Sizes.{Sizes}
 use Rattle.words.specs.Words.{columnIn, countIn}
 use Rattle.words.specs.Facts.{Holds, Grown}
@@ -53,31 +53,9 @@ numbered-is d s N = λ i. record {
   met = d .met;
 }
 
--- of a step's kind only the numbers are asked
-module _ (s : Sizes) (d : Design) (w : List ℕ) (x : Step) where
-  pub malformed-sized : malformed (s .level) (numbered s d) x ≡ malformed (s .level) (sized s) x
-  unfolding malformed
-  malformed-sized = go (kindOf x)
-    where
-      go : (κ : Kind) → outOfRange (s .level) (numbered s d) κ ≡ outOfRange (s .level) (sized s) κ
-      go silence = refl
-      go (message m q) = refl
-
-  pub transit-sized : notInTransit (s .level) (numbered s d) w x ≡ notInTransit (s .level) (sized s) w x
-  unfolding notInTransit
-  transit-sized = go (kindOf x)
-    where
-      go : (κ : Kind) → notComing (s .level) (numbered s d) w (x .board) κ ≡ notComing (s .level) (sized s) w (x .board) κ
-      go silence = refl
-      go (message m q) = refl
-
-  pub heard-sized : heard (s .level) (numbered s d) w x ≡ heard (s .level) (sized s) w x
-  unfolding heard
-  heard-sized = go (kindOf x)
-    where
-      go : (κ : Kind) → receipt (s .level) (numbered s d) w (x .board) κ ≡ receipt (s .level) (sized s) w (x .board) κ
-      go silence = refl
-      go (message m q) = refl
+-- of a receipt only the numbers are asked
+pub heard-sized : (s : Sizes) (d : Design) (w : List ℕ) (x : Step) → heard (s .level) (numbered s d) w x ≡ heard (s .level) (sized s) w x
+heard-sized s d w x = heard-if (s .level) (numbered s d) w x ∙ sym (heard-if (s .level) (sized s) w x)
 
 -- ---- refusals
 abbrev rest : Bool → Bool → Bool → Bool → ℕ
@@ -103,10 +81,10 @@ fault-kept d s e l K w x = ap (λ (D : Design). stepFault (s .level) D w x) (num
     hears = heard-sized s d w x ∙ sym (heard-sized s k w x)
 
     mal : malformed (s .level) (numbered s d) x ≡ malformed (s .level) k x
-    mal = malformed-sized s d w x ∙ sym (malformed-sized s k w x)
+    mal = malformed-if (s .level) (numbered s d) w x ∙ sym (malformed-if (s .level) k w x)
 
     away : notInTransit (s .level) (numbered s d) w x ≡ notInTransit (s .level) k w x
-    away = transit-sized s d w x ∙ sym (transit-sized s k w x)
+    away = transit-if (s .level) (numbered s d) w x ∙ sym (transit-if (s .level) k w x)
 
     unmet : x .rule < s .rules → notMet (s .level) (numbered s d) w x ≡ notMet (s .level) k w x
     unmet h = ap not (every-same (s .types) _ _ (λ m hm.

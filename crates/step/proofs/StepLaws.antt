@@ -1,13 +1,13 @@
 -- A step's checks in order, from what the code has in hand: each answer is the first of the outline's refusals, by the kept rules.
 use mathlib.Core.Path.{_≡_, refl, sym, ap, _∙_}
-use mathlib.Core.Bool.{Bool, true, false, not, _&&_, _||_}
-use mathlib.Core.List.{List, []}
+use mathlib.Core.Bool.{Bool, true, false, not, _&&_, _||_, true≢false}
+use mathlib.Core.List.{List}
 use Prim.Native.Nat.{ℕ, _+_, _≤_, _<_}
 use native.Mathlib.Decide.{decLt}
 use native.Mathlib.Omega.{arith}
 use lib.Dec.{eqb, ltb, leb}
 use lib.ListN.{length}
-use borrow.Author.Tests.{leb-false, lt-ltb, le-ltb, le-leb, lt-leb, eqb-true, eq-eqb, ne-eqb}
+use borrow.Author.Tests.{leb-false, lt-ltb, le-ltb, le-leb, lt-leb, eqb-true, eq-eqb, ne-eqb, not-false}
 use Rattle.senders.specs.Tally.{digit}
 use Rattle.senders.proofs.TallyLaws.{and-both, every-same}
 use Rattle.fault.specs.Tests.{_atLeast_, _differs_}
@@ -17,24 +17,12 @@ use Rattle.fault.proofs.TestLaws.{same}
 use Rattle.paper.specs.Paper.{Design, Step, silent}
 use Rattle.paper.specs.Words.{size, state}
 use Rattle.paper.specs.Step.{malformed, notInTransit, notMet, stepFault}
-use Rattle.paper.proofs.StepLaws.{Arrives, Named, accepted, malformed-if, transit-if, named-of, transit-of, count-heard}
+use Rattle.paper.proofs.StepLaws.{Arrives, Named, accepted, sixth, malformed-if, transit-if, named-of, count-heard}
 use Rattle.words.specs.declared.Sizes.{Sizes}
-use Rattle.words.specs.Words.{roomOf, columnIn, countIn}
-use Rattle.words.specs.Facts.{At, Sourced}
+use Rattle.words.specs.Words.{roomOf, columnIn, countIn, transitIn}
 use Rattle.rules.specs.Kept.{keptFrom, keptLeast, keptDesign, Numbers}
-use Rattle.step.proofs.KeptLaws.{numbered, numbered-is, malformed-sized, transit-sized}
-use Rattle.step.specs.Step.{sized, metWith, keptFault, Formed, Leaves}
-
--- ---- the message that a step names
-module _ {b : Bool} (s : Sizes) (x : Step) (F : Formed s x) (e : b ≡ silent x) (f : b ≡ false) where
-  named : Named (s .level) (sized s) x
-  named = named-of (s .level) (sized s) [] x (F .named) (sym e ∙ f)
-
-  pub names-type : At s (x .board) (x .type)
-  names-type = record { board = F .board; type = named .type }
-
-  pub names-source : Sourced s (x .source)
-  names-source = record { below = named .source }
+use Rattle.step.proofs.KeptLaws.{numbered, numbered-is}
+use Rattle.step.specs.Step.{sized, metWith, keptStepped, keptFault, keptLeft, Formed, Leaves}
 
 -- a step that a design of these numbers accepts
 pub formed-by : (d : Design) (s : Sizes) → Numbers d s → (w : List ℕ) (x : Step) → stepFault (s .level) d w x ≡ 0 → Formed s x
@@ -55,20 +43,27 @@ pub board-in-room : (s : Sizes) (p : ℕ) → p < s .correct → p < roomOf s
 unfolding size
 board-in-room s p h = omega arith
 
+-- what a step answers, and the words that it leaves
+abbrev pub Answers : Sizes → List ℕ → List ℕ → List ℕ → Step → ℕ → List ℕ → Type 0
+Answers s ends leasts w x k v = (k ≡ keptFault s ends leasts w x) × (v ≡ keptLeft s ends leasts w x)
+
+refuses : {k : ℕ} (s : Sizes) (ends leasts w : List ℕ) (x : Step) → k ≡ keptFault s ends leasts w x → (k ≡ 0 → ⊥) → Answers s ends leasts w x k w
+refuses s ends leasts w x e n = (e, if-no (keptStepped s ends w x) refl (ne-eqb _ 0 (λ z. n (e ∙ z))) refl)
+
 module _ {a : Bool} (s : Sizes) (ends leasts w : List ℕ) (x : Step) (e : a ≡ (x .board atLeast s .correct)) where
-  pub fault-board : a ≡ true → 20 ≡ keptFault s ends leasts w x
+  pub fault-board : a ≡ true → Answers s ends leasts w x 20 w
   unfolding stepFault
-  fault-board f = if-yes _ refl e f
+  fault-board f = refuses s ends leasts w x (if-yes _ refl e f) (λ z. omega arith)
 
   module _ {b : Bool} (f : a ≡ false) (g : b ≡ (x .rule atLeast s .rules)) where
-    pub fault-rule : b ≡ true → 21 ≡ keptFault s ends leasts w x
+    pub fault-rule : b ≡ true → Answers s ends leasts w x 21 w
     unfolding stepFault
-    fault-rule h = if-no 20 e f (if-yes _ refl g h)
+    fault-rule h = refuses s ends leasts w x (if-no 20 e f (if-yes _ refl g h)) (λ z. omega arith)
 
     module _ {c : Bool} (h : b ≡ false) (i : c ≡ (state w (x .board) differs keptFrom ends (x .rule))) where
-      pub fault-state : c ≡ true → 22 ≡ keptFault s ends leasts w x
+      pub fault-state : c ≡ true → Answers s ends leasts w x 22 w
       unfolding stepFault
-      fault-state j = if-no 20 e f (if-no 21 g h (if-yes _ refl i j))
+      fault-state j = refuses s ends leasts w x (if-no 20 e f (if-no 21 g h (if-yes _ refl i j))) (λ z. omega arith)
 
       pub leaves-by : c ≡ false → Leaves s ends w x
       leaves-by j = record { board = below (x .board) (s .correct) e f; rule = below (x .rule) (s .rules) g h; from = same _ _ (sym i ∙ j) }
@@ -99,8 +94,16 @@ module _ (s : Sizes) (ends leasts w : List ℕ) (x : Step) (few : s .types ≤ 4
       ap (λ (n : ℕ). n atLeast keptLeast leasts (x .rule) i)
       (count-heard (s .level) (keptDesign s ends leasts) w x l A i h ∙ ap (λ (y : ℕ). countIn s w (x .board) i + y) (silent-type i h))))
 
+  -- past all other checks, the thresholds decide
+  module _ {c : Bool} (i : c ≡ not (metWith s leasts w (x .board) (x .rule) (x .type))) where
+    pub fault-unmet : c ≡ true → Answers s ends leasts w x 25 w
+    fault-unmet j = refuses s ends leasts w x (if-yes 0 refl (i ∙ sym not-met-is) j ∙ sym (sixth (s .level) (keptDesign s ends leasts) w x A)) (λ z. omega arith)
+
+    pub fault-none : {v : List ℕ} → c ≡ false → v ≡ keptStepped s ends w x → Answers s ends leasts w x 0 v
+    fault-none j f = let e = if-no 25 (i ∙ sym not-met-is) j refl ∙ sym (sixth (s .level) (keptDesign s ends leasts) w x A) in (e, if-yes w f refl (eq-eqb _ 0 (sym e)))
+
 -- ---- a step past its first checks
-module _ (s : Sizes) (ends leasts w : List ℕ) (x : Step) (few : s .types ≤ 4) (l : length w ≡ roomOf s) (L : Leaves s ends w x) where
+module _ (s : Sizes) (ends leasts w : List ℕ) (x : Step) (L : Leaves s ends w x) where
   abbrev d : Design
   d = keptDesign s ends leasts
 
@@ -108,54 +111,24 @@ module _ (s : Sizes) (ends leasts w : List ℕ) (x : Step) (few : s .types ≤ 4
   unfolding stepFault
   past e = if-no 20 refl (lt-leb _ _ (L .board)) (if-no 21 refl (lt-leb _ _ (L .rule)) (if-no 22 refl (ap not (eq-eqb _ _ (L .from))) e))
 
-  -- only the numbers are asked for 23 and 24
-  mal : malformed (s .level) (sized s) x ≡ malformed (s .level) d x
-  mal = sym (malformed-sized s d w x)
+  -- without a message
+  pub arrives-silent : silent x ≡ true → Arrives (s .level) d w x
+  arrives-silent z = record { board = L .board; rule = L .rule; leaves = L .from; named = λ e. absurd (true≢false (sym z ∙ e)); transit = λ e. absurd (true≢false (sym z ∙ e)) }
 
-  away : notInTransit (s .level) (sized s) w x ≡ notInTransit (s .level) d w x
-  away = sym (transit-sized s d w x)
+  -- with one
+  module _ {a : Bool} (z : silent x ≡ false) (e : a ≡ (x .type atLeast s .types || x .source atLeast columnIn s .sources)) where
+    mal : a ≡ malformed (s .level) d x
+    mal = e ∙ sym (malformed-if (s .level) d w x ∙ rw z)
 
-  pub fault-malformed : {a : Bool} → a ≡ malformed (s .level) (sized s) x → a ≡ true → 23 ≡ keptFault s ends leasts w x
-  fault-malformed e f = past (if-yes _ refl (e ∙ mal) f)
+    pub fault-malformed : a ≡ true → Answers s ends leasts w x 23 w
+    fault-malformed f = refuses s ends leasts w x (past (if-yes _ refl mal f)) (λ i. omega arith)
 
-  module _ {a : Bool} (e : a ≡ malformed (s .level) (sized s) x) (f : a ≡ false) where
-    pub formed : Formed s x
-    formed = record { board = L .board; rule = L .rule; named = sym e ∙ f }
+    module _ (f : a ≡ false) where
+      pub named-by : Named (s .level) d x
+      named-by = named-of (s .level) d w x (sym mal ∙ f) z
 
-    pub fault-away : {b : Bool} → b ≡ notInTransit (s .level) (sized s) w x → b ≡ true → 24 ≡ keptFault s ends leasts w x
-    fault-away g h = past (if-no 23 (e ∙ mal) f (if-yes _ refl (g ∙ away) h))
+      pub fault-away : {b : Bool} → b ≡ not (transitIn s w (x .board) (x .type) (x .source)) → b ≡ true → Answers s ends leasts w x 24 w
+      fault-away g h = refuses s ends leasts w x (past (if-no 23 mal f (if-yes _ refl (g ∙ sym (transit-if (s .level) d w x ∙ rw z)) h))) (λ i. omega arith)
 
-    module _ {b : Bool} (g : b ≡ notInTransit (s .level) (sized s) w x) (h : b ≡ false) where
-      arrives : Arrives (s .level) d w x
-      arrives = record {
-        board = L .board;
-        rule = L .rule;
-        leaves = L .from;
-        named = named-of (s .level) d w x (sym (e ∙ mal) ∙ f);
-        transit = transit-of (s .level) d w x (sym (g ∙ away) ∙ h);
-      }
-
-      module _ {c : Bool} (i : c ≡ not (metWith s leasts w (x .board) (x .rule) (x .type))) where
-        met : c ≡ notMet (s .level) d w x
-        met = i ∙ sym (not-met-is s ends leasts w x few l arrives)
-
-        pub fault-unmet : c ≡ true → 25 ≡ keptFault s ends leasts w x
-        fault-unmet j = past (if-no 23 (e ∙ mal) f (if-no 24 (g ∙ away) h (if-yes _ refl met j)))
-
-        pub fault-none : c ≡ false → 0 ≡ keptFault s ends leasts w x
-        fault-none j = past (if-no 23 (e ∙ mal) f (if-no 24 (g ∙ away) h (if-no 25 met j refl)))
-
--- no message is neither malformed nor away
-module _ (s : Sizes) (w : List ℕ) (x : Step) (z : silent x ≡ true) where
-  pub silent-formed : false ≡ malformed (s .level) (sized s) x
-  silent-formed = sym (malformed-if (s .level) (sized s) w x ∙ rw z)
-
-  pub silent-there : false ≡ notInTransit (s .level) (sized s) w x
-  silent-there = sym (transit-if (s .level) (sized s) w x ∙ rw z)
-
--- ---- what a step that is accepted or refused leaves
-pub step-left : {y z : ℕ} (u w : List ℕ) → y ≡ z → (y ≡ 0 → ⊥) → w ≡ (u if eqb z 0 else w)
-step-left u w e n = if-no u refl (ne-eqb _ 0 (λ z. n (e ∙ z))) refl
-
-pub step-done : {y z : ℕ} {v u : List ℕ} (w : List ℕ) → y ≡ z → y ≡ 0 → v ≡ u → v ≡ (u if eqb z 0 else w)
-step-done w e z h = if-yes w h refl (eq-eqb _ 0 (sym e ∙ z))
+      pub arrives-by : {b : Bool} → b ≡ not (transitIn s w (x .board) (x .type) (x .source)) → b ≡ false → Arrives (s .level) d w x
+      arrives-by g h = record { board = L .board; rule = L .rule; leaves = L .from; named = λ _. named-by; transit = λ _. not-false _ (sym g ∙ h) }

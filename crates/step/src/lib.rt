@@ -1,6 +1,6 @@
 // One step: its refusal, which changes nothing, and its change of at most three words.
 ghost use mathlib.Core.Path.{_≡_};
-ghost use mathlib.Core.Bool.{true, false, not};
+ghost use mathlib.Core.Bool.{true, false, not, _||_};
 ghost use Prim.Native.Nat.{_+_, _≤_, _<_};
 ghost use lib.Dec.{eqb};
 ghost use lib.ListN.{length};
@@ -8,12 +8,12 @@ ghost use Rattle.senders.specs.Tally.{digit};
 ghost use Rattle.fault.specs.Tests.{_atLeast_, _differs_};
 ghost use Rattle.paper.specs.Paper as paper;
 ghost use Rattle.paper.specs.Words.{state};
-ghost use Rattle.paper.specs.Step.{notInTransit, stepFault};
-ghost use Rattle.paper.specs.Step as steps;
+ghost use Rattle.paper.specs.Step.{stepFault};
 ghost use Rattle.schedule.specs.Records.{meant};
+ghost use Rattle.words.specs.Words.{columnIn};
 ghost use Rattle.words.specs.Facts.{atRest, inStep, Bounded, Holds, Grown};
 ghost use Rattle.rules.specs.Kept.{keptRoom, keptFrom, ByDesign};
-ghost use Rattle.step.specs.Step.{leftBy, sized, metWith, movedBy, keptStepped, keptFault, keptLeft, Formed, Leaves};
+ghost use Rattle.step.specs.Step.{leftBy, metWith, movedBy, keptFault, keptLeft, Leaves};
 use schedule::Step;
 use words::Sizes;
 
@@ -58,26 +58,27 @@ fn without_message(s: Sizes, ends: &[u8], leasts: &[u16], w: &mut [u64], x: Step
     if not_met(s, leasts, w, x.board, x.rule, x.mtype) {
         return 25;
     }
-    change(s, ends, w, x);
+    move_on(s, ends, w, x.board, x.rule);
     0
 }
 
-// The rest of a step with one.
+// The rest of a step with one: it is received before the move.
 fn with_message(s: Sizes, ends: &[u8], leasts: &[u16], w: &mut [u64], x: Step) -> usize
-    requires { ⌜ (Bounded s) × (length (now ends) ≡ keptRoom) × (length (now leasts) ≡ keptRoom) × (Holds s atRest (now w)) × (Leaves s (now ends) (now w) (meant x)) ⌝ }
+    requires { ⌜ (Bounded s) × (length (now ends) ≡ keptRoom) × (length (now leasts) ≡ keptRoom) × (Holds s atRest (now w)) × (Leaves s (now ends) (now w) (meant x)) × (paper.silent (meant x) ≡ false) ⌝ }
     ensures { λ r. ⌜ r ≡ keptFault s (now (ends .entry)) (now (leasts .entry)) (now (w .entry)) (meant x) ⌝ }
     ensures { λ r. ⌜ now (w .exit) ≡ keptLeft s (now (ends .entry)) (now (leasts .entry)) (now (w .entry)) (meant x) ⌝ }
 {
     if malformed(s, x) {
         return 23;
     }
-    if not_in_transit(s, w, x) {
+    if !words::in_transit(s, w, x.board, x.mtype, x.source) {
         return 24;
     }
     if not_met(s, leasts, w, x.board, x.rule, x.mtype) {
         return 25;
     }
-    change(s, ends, w, x);
+    words::hear(s, w, x.board, x.mtype, x.source);
+    move_on(s, ends, w, x.board, x.rule);
     0
 }
 
@@ -97,24 +98,13 @@ pub fn other_state(ends: &[u8], w: &[u64], p: usize, r: usize) -> bool
     w[p] != rules::from(ends, r) as u64
 }
 
-// 23
+// 23, of a step with a message
 fn malformed(s: Sizes, x: Step) -> bool
     requires { ⌜ Bounded s ⌝ }
-    ensures { λ b. ⌜ b ≡ steps.malformed (s .level) (sized s) (meant x) ⌝ }
+    ensures { λ b. ⌜ b ≡ (x .mtype atLeast s .types || x .source atLeast columnIn s .sources) ⌝ }
 {
     let n = words::level::sources(s.level, s.wide, s.correct, s.faulty);
-    !schedule::silent(x) & ((s.types <= x.mtype) | (n <= x.source))
-}
-
-// 24
-fn not_in_transit(s: Sizes, w: &[u64], x: Step) -> bool
-    requires { ⌜ (Bounded s) × (Formed s (meant x)) × (Holds s inStep (now w)) ⌝ }
-    ensures { λ b. ⌜ b ≡ notInTransit (s .level) (sized s) (now (w .entry)) (meant x) ⌝ }
-{
-    if schedule::silent(x) {
-        return false;
-    }
-    !words::in_transit(s, w, x.board, x.mtype, x.source)
+    (s.types <= x.mtype) | (n <= x.source)
 }
 
 // 25, by the counts after the receipt
@@ -142,26 +132,6 @@ fn gain(m: usize, i: usize) -> u64
 }
 
 // ---- the change
-// A receipt, and a move with perhaps a send.
-fn change(s: Sizes, ends: &[u8], w: &mut [u64], x: Step)
-    requires { ⌜ (Bounded s) × (length (now ends) ≡ keptRoom) × (Formed s (meant x)) × (Holds s atRest (now w)) ⌝ }
-    ensures { λ r. ⌜ now (w .exit) ≡ keptStepped s (now (ends .entry)) (now (w .entry)) (meant x) ⌝ }
-{
-    receive(s, w, x);
-    move_on(s, ends, w, x.board, x.rule);
-}
-
-// The step's board receives the message that it names, if any.
-fn receive(s: Sizes, w: &mut [u64], x: Step)
-    requires { ⌜ (Bounded s) × (Formed s (meant x)) × (Holds s inStep (now w)) ⌝ }
-    ensures { λ r. ⌜ now (w .exit) ≡ steps.heard (s .level) (sized s) (now (w .entry)) (meant x) ⌝ }
-{
-    if schedule::silent(x) {
-        return;
-    }
-    words::hear(s, w, x.board, x.mtype, x.source);
-}
-
 // Board p enters the state that rule r leads to, and sends the rule's type, if any.
 pub fn move_on(s: Sizes, ends: &[u8], w: &mut [u64], p: usize, r: usize)
     requires { ⌜ (Bounded s) × (length (now ends) ≡ keptRoom) × (p < s .correct) × (r < s .rules) × (Holds s inStep (now w)) ⌝ }

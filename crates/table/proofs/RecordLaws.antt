@@ -58,6 +58,3 @@ unfolding coefficientsOf
 coefficients-byte s r m j h l =
     let e : ruleAt s r + (endBytes + typeBytes * m + j) ≡ coefficientsAt s r m + j = omega arith in
     getD-take typeBytes (drop (endBytes + typeBytes * m) (ruleOf s r)) j 0 l ∙ getD-drop (endBytes + typeBytes * m) (ruleOf s r) j 0 ∙ rule-byte s r (endBytes + typeBytes * m + j) (omega arith) ∙ ap (byteAt s) e
-
-pub coefficients-first : (s : List ℕ) (r m : ℕ) → m < typesOf s → byteAt (coefficientsOf (ruleOf s r) m) 0 ≡ byteAt s (coefficientsAt s r m)
-coefficients-first s r m h = coefficients-byte s r m 0 h (omega arith) ∙ ap (byteAt s) (omega arith)

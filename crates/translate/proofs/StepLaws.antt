@@ -28,7 +28,6 @@ use Rattle.words.specs.Facts.{Bounded, At, Sourced}
 use Rattle.words.proofs.LevelCases.{counts}
 use Rattle.rules.specs.Kept.{Numbers}
 use Rattle.step.specs.Step.{sized, movedBy, keptStepped, Formed}
-use Rattle.step.proofs.StepLaws.{names-source}
 use Rattle.step.proofs.KeptLaws.{numbered-is}
 use Rattle.translate.specs.Facts.{lowIn}
 
@@ -160,7 +159,7 @@ module _ {q : ℕ} (s : Sizes) (w : List ℕ) (x : Step) (B : Bounded s) (F : Fo
   told = typed (s .types) x q (omega (arith, B .types)) (source-what s w x B F e .0 .type)
 
   pub low-sourced : Sourced s q
-  low-sourced = names-source s (withSource x q) (subst (Formed s) low-is F) refl told
+  low-sourced = record { below = named-of (s .level) (sized s) w (withSource x q) (subst (Formed s) low-is F .named) told .source }
 
   pub low-heard : {v : List ℕ} → v ≡ hear (s .correct) (s .types) (wide (s .level)) (x .board) (x .type) (slot (s .level) q) (bump (s .level) q) w → v ≡ heard (s .level) (sized s) w (lowIn s w x)
   low-heard g = g ∙ sym (ap (heard (s .level) (sized s) w) low-is ∙ heard-message (s .level) (sized s) w (withSource x q) told)

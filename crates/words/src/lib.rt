@@ -54,7 +54,7 @@ pub fn cell_at(s: Sizes, p: usize, m: usize) -> usize
 // The last word of the cell that begins at i, which is the first where a cell has one.
 fn last_of(s: Sizes, i: usize) -> usize
     requires { ⌜ (Bounded s) × (i ≤ 576) ⌝ }
-    ensures { λ r. ⌜ (r ≡ i + forms.slot (s .level) 1) × (r < i + forms.wide (s .level)) × (r ≤ 577) ⌝ }
+    ensures { λ r. ⌜ (r ≡ i + forms.slot (s .level) 1) × (i ≤ r) × (r < i + forms.wide (s .level)) × (r ≤ 577) ⌝ }
 {
     i + (s.wide - 1)
 }

@@ -1,5 +1,4 @@
 -- What is cut after the start bytes, as long as the trailer says, is `stepsOf`; it ends where the trailer begins.
-use native.Mathlib.Omega.{arith}
 use borrow.Author.Needs.{needs}
 use Rattle.bundle.proofs.BundleLaws.{steps-are}
 use Rattle.bundle.proofs.steps.Statement.{statement}
@@ -9,13 +8,6 @@ pub steps-spec : {M : Type 1} → statement M
 steps-spec =
     tie.close
     (tie.spec
-    (λ c κs. search needs) (λ c κs. search needs)
-    -- add-end
-    (λ c. omega arith)
-    (λ c. search needs)
-    -- part-result-start
-    (λ c. omega arith)
-    -- part-result-end
-    (λ c. omega arith)
+    (λ c κs. search needs) (λ c κs. search needs) (λ c. search needs) (λ c. search needs) (λ c. search needs) (λ c. search needs)
     -- returns
     (λ c. search steps-are))

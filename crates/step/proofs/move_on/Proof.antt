@@ -1,6 +1,7 @@
 -- The state is entered; then the kept type is sent, if there is one. Both are the definition's, at the kept numbers.
 use mathlib.Core.Path.{ap, _∙_, subst⁻¹}
 use native.Mathlib.Omega.{arith}
+use borrow.Author.Needs.{needs}
 use lib.ListN.{length, set}
 use Rattle.step.proofs.StepLaws.{board-in-room}
 use Rattle.step.proofs.KeptLaws.{moved-sent, moved-quiet, length-moved}
@@ -13,15 +14,11 @@ pub move-on-spec : {M : Type 1} → statement M
 move-on-spec =
     tie.close
     (tie.spec
-    -- to-requires
-    (λ c κs. let st = c .before .before .before in
-    (st .pre .1, omega (arith, st .pre .3, st .pre .0 .rules)))
+    (λ c κs. search needs)
     -- enter-requires
     (λ c κs. let st = c .before .before .before .before in
     (omega (arith, st .pre .4 .fits, board-in-room (st .args .s) (st .args .p) (st .pre .2)), omega (arith, st .pre .2, st .pre .0 .boards)))
-    -- sends-requires
-    (λ c κs. let st = c .before .before .before .before .before .before .before in
-    (st .pre .1, omega (arith, st .pre .3, st .pre .0 .rules)))
+    (λ c κs. search needs)
     -- tell-requires
     (λ c κs. let entered = c .before .before .before .before .before .before in let went = entered .before in let st = went .before .before .before .before in
     let a = st .args in

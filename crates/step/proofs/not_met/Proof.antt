@@ -32,20 +32,11 @@ not-met-spec =
     -- count-requires
     (λ c κs. let st = c .before .before .before .before in
     (st .pre .0, record { board = st .pre .2; type = c .loop-test .taken }, st .pre .4))
-    (λ c κs. search needs)
-    -- add-count
-    (λ c. omega (arith, c .before .count .ensures .1, c .gain .ensures .1))
-    -- least-requires
-    (λ c κs. let st = c .before .before .before .before .before .before in
-    (st .pre .1, omega (arith, st .pre .3, st .pre .0 .rules), omega (arith, c .before .before .loop-test .taken, st .pre .0 .types)))
+    (λ c κs. search needs) (λ c. search needs) (λ c κs. search needs)
     -- returns
     (λ c. let turn = c .before .before .before .before .before in
     every-failed _ (below-not (ap₂ _+_ (c .before .before .before .count .ensures .0) (c .before .before .gain .ensures .0)) (c .before .least .ensures .0)) (lt-ltb _ _ (c .if1 .taken)) (c .before .before .before .before .loop-test .taken))
-    -- add-i
-    (λ c. let tested = c .before .before .before .before in
-    omega (arith, tested .loop-test .taken, tested .before .before .before .before .pre .0 .types))
-    -- loop-less
-    (λ c. omega (arith, c .before .before .before .before .loop-test .taken))
+    (λ c. search needs) (λ c. search needs)
     -- loop-again
     (λ c. let turn = c .before .before .before .before .before in
     (omega (arith, c .before .before .before .before .loop-test .taken), every-more _ (turn .loop .i) (turn .loop .inv .1) (below-not (ap₂ _+_ (c .before .before .before .count .ensures .0) (c .before .before .gain .ensures .0)) (c .before .least .ensures .0)) (le-ltb _ _ (c .if1 .left))))

@@ -1,6 +1,7 @@
 -- At level j the steps are those at the start made coarser by j - k levels; the last j is the level that is asked for.
 use Prim.Native.Nat.{_-_, _≤_}
 use native.Mathlib.Omega.{arith}
+use borrow.Author.Needs.{needs}
 use Rattle.schedule.proofs.RecordLaws.{records-kept}
 use Rattle.translate.proofs.WriteLaws.{Coarsened, coarsened-none, coarsened-more, coarsened-all}
 use Rattle.translate.proofs.coarsen.Statement.{statement}
@@ -23,10 +24,7 @@ coarsen-spec =
     (omega arith, st .pre .0, coarsened-none (st .args .k) (st .args .c) (st .args .steps .now) (st .pre .2)))
     -- write-tags-requires
     (λ c κs. records-kept (c .before .before .before .before .pre .2) (c .before .before .loop .inv .2 .long))
-    -- add-j
-    (λ c. omega (arith, c .before .before .before .before .loop-test .taken, c .before .before .before .before .before .before .before .pre .1))
-    -- loop-less
-    (λ c. omega (arith, c .before .before .before .before .loop-test .taken))
+    (λ c. search needs) (λ c. search needs)
     -- loop-again
     (λ c. let st = c .before .before .before .before .before .before .before in
     let inv = c .before .before .before .before .before .loop .inv in

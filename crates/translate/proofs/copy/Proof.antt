@@ -25,9 +25,7 @@ copy-spec =
     (λ c. (omega arith, c .pre, λ j h. absurd (omega arith)))
     -- shared-slice-read-to
     (λ c. c .before .loop-test .taken)
-    -- slice-write-to
-    (λ c. omega (arith, c .before .before .loop .inv .1, c .before .loop-test .taken))
-    (λ c. search needs) (λ c. search needs)
+    (λ c. search needs) (λ c. search needs) (λ c. search needs)
     -- loop-again
     (λ c. let a = c .before .before .before .args in let l = c .before .before .loop in
     (omega (arith, c .before .loop-test .taken), length-set (l .to) (l .i) (getD (a .from .now) (l .i) 0) ∙ l .inv .1, fills (l .to) (a .from .now) (l .i) (getD (a .from .now) (l .i) 0) (omega (arith, l .inv .1, c .before .loop-test .taken)) (l .inv .2) refl))

@@ -26,10 +26,7 @@ hear-lowest-spec =
     let a = st .args in
     let e = sym (quiet .silent .ensures) ∙ other .if1 .left in
     (st .pre .0, source-what (a .s) (a .w .now) (meant (a .x)) (st .pre .0) (st .pre .5) e .0, low-sourced (a .s) (a .w .now) (meant (a .x)) (st .pre .0) (st .pre .5) e (found .source .ensures .0), st .pre .1))
-    -- set-source-requires
-    (λ c κs. let found = c .before .before .before .before .before in let st = found .before .before .before .before .before .before in
-    (st .pre .2, st .pre .3, found .source .ensures .1))
-    (λ c. search needs) (λ c. search needs)
+    (λ c κs. search needs) (λ c. search needs) (λ c. search needs)
     -- returns-2
     (λ c. let done = c .before .before in let got = done .before .before .before .before in let found = got .before .before in let other = found .before .before in
     let quiet = other .before in let st = quiet .before .before .before in let a = st .args in

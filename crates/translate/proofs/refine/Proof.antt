@@ -26,18 +26,13 @@ refine-spec =
     -- loop-holds
     (λ c. let st = c .before .before .before .before in let a = st .args in
     (st .pre .3, omega arith, st .pre .4, refined-none (a .s) (a .ends .now) (a .bundle .now) (st .pre .0) (st .pre .5)))
-    -- sub-j
-    (λ c. omega (arith, c .loop-test .taken))
-    (λ c κs. search needs)
+    (λ c. search needs) (λ c κs. search needs)
     -- write-sources-requires
     (λ c κs. let at = c .before .before in let turn = at .before .before in let st = turn .before .before .before .before .before in let a = st .args in
     let e = at .at-level .ensures in
     let F = turn .loop .inv .3 in
     (subst⁻¹ (λ (x : Sizes). Parts x (a .bundle .now)) e (level-parts (turn .loop .j - 1) (a .s) (st .pre .0)), subst⁻¹ Bounded e (level-bounded (turn .loop .j - 1) (a .s) (st .pre .1)), turn .loop .inv .2, refined-records (a .s) (a .ends .now) (a .bundle .now) (st .pre .0) (F (st .pre .2)), refined-runs (a .s) (a .ends .now) (a .bundle .now) (st .pre .0) (turn .loop .j - 1) (turn .loop .j) (omega (arith, at .before .loop-test .taken)) (turn .loop .inv .1) F e (st .pre .2)))
-    -- loop-less
-    (λ c. let done = c .before .before .before .before in let at = done .before .before .before in let turn = at .before .before in
-    let st = turn .before .before .before .before .before in let a = st .args in
-    omega (arith, at .before .loop-test .taken))
+    (λ c. search needs)
     -- loop-again
     (λ c. let done = c .before .before .before .before in let at = done .before .before .before in let turn = at .before .before in
     let st = turn .before .before .before .before .before in let a = st .args in

@@ -14,27 +14,17 @@ pub source-spec : {M : Type 1} → statement M
 source-spec =
     tie.close
     (tie.spec
-    -- first-source-requires
-    (λ c κs. let st = c .before .before .before in
-    (st .pre .0, st .pre .2, st .pre .1))
+    (λ c κs. search needs)
     -- returns
     (λ c. let st = c .before .before .before .before in let a = st .args in (
       source-found (a .s) (a .w .now) (meant (a .x)) (source-low (a .s) (a .w .now) (a .x .board) (a .x .mtype) (a .x .source) (c .before .if1 .taken) (st .pre .3) (c .first-source .ensures)),
       omega (arith, c .first-source .ensures, least-le (columnIn (a .s) .sources) (transitIn (a .s) (a .w .now) (a .x .board) (a .x .mtype)), sources-few (a .s .level) (a .s .correct) (a .s .faulty) (st .pre .0 .boards)),
     ))
-    -- cell-at-requires
-    (λ c κs. let st = c .before .before .before in
-    (st .pre .0, st .pre .2))
-    -- sent-at-requires
-    (λ c κs. let st = c .before .before .before .before in
-    (st .pre .0, omega (arith, st .pre .2 .type)))
-    (λ c. search needs)
+    (λ c κs. search needs) (λ c κs. search needs) (λ c. search needs)
     -- shared-slice-read-lowest-of
     (λ c. let cell = c .before .before in let st = cell .before .before .before .before in
     omega (arith, st .pre .1 .fits, wide-some (st .args .s .level) .0, cell .cell-at .ensures .1))
-    -- mul-lowest-of-2
-    (λ c. let sent = c .before in let st = sent .before .before .before .before .before in
-    omega (arith, st .pre .2 .type, sent .sent-at .ensures .1, st .pre .0 .types))
+    (λ c. search needs)
     -- shared-slice-read-lowest-of-2
     (λ c. let sent = c .before .before in let st = sent .before .before .before .before .before in
     omega (arith, st .pre .1 .fits, sent .sent-at .ensures .0, sent-in-room (st .args .s) (st .args .x .mtype) (st .pre .2 .type)))

@@ -8,10 +8,7 @@ pub translate-in-spec : {M : Type 1} → statement M
 translate-in-spec =
     tie.close
     (tie.spec
-    -- run-own-requires
-    (λ c κs. let st = c .before .before .before .before .before .before in
-    (st .pre .0, st .pre .1, st .pre .2 .kept .ends .long, st .pre .2 .kept .leasts .long, st .pre .4))
-    (λ c. search needs)
+    (λ c κs. search needs) (λ c. search needs)
     -- returns
     (λ c. let ran = c .before .before .before .before in let st = ran .before .before .before .before .before .before .before in let a = st .args in
     λ F. done-refused (a .s) (a .bundle .now) (F .design) (a .form) (a .out .now) (ran .run-own .ensures .0 (F .design) (F .kept)) (c .if1 .taken))

@@ -15,18 +15,12 @@ pub write-spec : {M : Type 1} → statement M
 write-spec =
     tie.close
     (tie.spec
-    (λ c κs. search needs) (λ c κs. search needs) (λ c. search needs) (λ c. search needs) (λ c. search needs)
-    (λ c. search needs)
+    (λ c κs. search needs) (λ c κs. search needs) (λ c. search needs) (λ c. search needs) (λ c. search needs) (λ c. search needs)
     -- write-steps-requires
     (λ c κs. let at = c .before .before in let copied = at .before .before .before in let st = copied .before .before .before .before .before .before in
     let a = st .args in
     (st .pre .0, st .pre .1, st .pre .2, st .pre .3, st .pre .4, steps-part (a .bundle .now) (st .pre .0 .trailed) (st .pre .0 .parted) (at .steps-at .ensures .0) (copied .copy .ensures) (length (a .bundle .now) - 8 - at .steps-at .result) (omega (arith, at .steps-at .ensures .1))))
-    (λ c. search needs)
-    -- cast-out
-    (λ c. let done = c .before .before .before .before in let at = done .before .before .before in let copied = at .before .before .before in
-    let st = copied .before .before .before .before .before .before in let a = st .args in
-    omega (arith, st .pre .3))
-    (λ c. search needs) (λ c. search needs)
+    (λ c. search needs) (λ c. search needs) (λ c. search needs) (λ c. search needs)
     -- same-length-2
     (λ c. let done = c .before .before .before .before in let at = done .before .before .before in let copied = at .before .before .before in
     let st = copied .before .before .before .before .before .before in let a = st .args in

@@ -2,6 +2,7 @@
 use mathlib.Core.Path.{_≡_, refl, sym, ap, _∙_}
 use Prim.Native.Nat.{_+_, _*_, _/_, _-_, _≤_}
 use native.Mathlib.Omega.{arith}
+use borrow.Author.Needs.{needs}
 use lib.ListN.{length, length-set}
 use Rattle.words.specs.Facts.{atRest, Holds}
 use Rattle.words.proofs.KeepLaws.{holds-more}
@@ -28,14 +29,7 @@ write-along-spec =
     (λ c κs. let turn = c .before .before .before in let st = turn .before .before .before .before in let a = st .args in
     let t = c .before .before .loop-test .taken in
     (st .pre .0, st .pre .3 .kept .long, holds-more (a .s) (256 + 2 * turn .loop .i) atRest (turn .loop .w) (omega (arith, t, st .pre .2 .few)) (turn .loop .inv .1), omega (arith, t, st .pre .2 .few), omega (arith, t, turn .loop .inv .2), alongs-formed (a .s) (a .ends .now) (a .w .now) (length (a .steps .now) / 4) (a .steps .now) (st .pre .2 .whole) (turn .loop .inv .3) t (st .pre .3)))
-    -- add-i
-    (λ c. let done = c .before .before .before .before in let turn = done .before .before .before .before in let st = turn .before .before .before .before in
-    let a = st .args in
-    omega (arith, done .before .before .before .loop-test .taken, st .pre .2 .few))
-    -- loop-less
-    (λ c. let done = c .before .before .before .before in let turn = done .before .before .before .before in let st = turn .before .before .before .before in
-    let a = st .args in
-    omega (arith, done .before .before .before .loop-test .taken))
+    (λ c. search needs) (λ c. search needs)
     -- loop-again
     (λ c. let done = c .before .before .before .before in let turn = done .before .before .before .before in let st = turn .before .before .before .before in
     let a = st .args in

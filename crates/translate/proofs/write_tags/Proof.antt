@@ -2,6 +2,7 @@
 use mathlib.Core.Path.{sym, _∙_}
 use Prim.Native.Nat.{_/_, _-_, _≤_}
 use native.Mathlib.Omega.{arith}
+use borrow.Author.Needs.{needs}
 use lib.ListN.{length}
 use Rattle.translate.proofs.LoopLaws.{Tags, tags-none, tags-more, tags-all}
 use Rattle.translate.proofs.write_tags.Statement.{statement}
@@ -22,14 +23,7 @@ write-tags-spec =
     -- loop-holds
     (λ c. let st = c .before in
     (omega arith, tags-none (st .args .j) (st .args .c) (length (st .args .steps .now) / 4) (st .args .steps .now) (st .pre .whole)))
-    -- tag-at-requires
-    (λ c κs. let st = c .before .before .before .before in
-    (omega (arith, c .before .loop-test .taken, st .pre .few), omega (arith, c .before .loop-test .taken, c .before .before .loop .inv .1 .long)))
-    -- add-i
-    (λ c. let st = c .before .before .before .before .before .before .before in
-    omega (arith, c .before .before .before .before .loop-test .taken, st .pre .few))
-    -- loop-less
-    (λ c. omega (arith, c .before .before .before .before .loop-test .taken))
+    (λ c κs. search needs) (λ c. search needs) (λ c. search needs)
     -- loop-again
     (λ c. let st = c .before .before .before .before .before .before .before in
     let t = c .before .before .before .before .loop-test .taken in

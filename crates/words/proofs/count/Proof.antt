@@ -1,10 +1,8 @@
 -- The first and the last word of the cell show its collection, and the level counts that; both words are inside the configuration.
 use mathlib.Core.Path.{ap, _∙_}
-use native.Mathlib.Omega.{arith}
 use borrow.Author.Needs.{needs}
 use Rattle.words.proofs.PlaceLaws.{coll-words}
 use Rattle.words.specs.Words.{columnIn}
-use Rattle.paper.proofs.FormLaws.{wide-some}
 use Rattle.words.proofs.count.Statement.{statement}
 use Rattle.words.proofs.count.Tie as tie
 
@@ -12,14 +10,7 @@ pub count-spec : {M : Type 1} → statement M
 count-spec =
     tie.close
     (tie.spec
-    (λ c κs. search needs) (λ c κs. search needs) (λ c. search needs)
-    -- shared-slice-read-card
-    (λ c. let st = c .before .before .before .before in let a = st .args in
-    omega (arith, st .pre .2 .fits, wide-some (a .s .level) .0, c .before .before .cell-at .ensures .1))
-    (λ c. search needs)
-    -- shared-slice-read-card-2
-    (λ c. let st = c .before .before .before .before .before in let a = st .args in
-    omega (arith, st .pre .2 .fits, c .before .before .last-of .ensures .1, c .before .before .before .cell-at .ensures .1))
+    (λ c κs. search needs) (λ c κs. search needs) (λ c. search needs) (λ c. search needs) (λ c. search needs) (λ c. search needs)
     -- card-requires
     (λ c κs. let st = c .before .before .before .before .before in
     ((st .pre .0 .boards, st .pre .0 .wide), λ ne. (st .pre .2 .small ne _, st .pre .2 .small ne _)))

@@ -1,10 +1,8 @@
 -- The two words that are read are the first and the last of the cell, which show all of it.
 use mathlib.Core.Path.{ap, _∙_}
-use native.Mathlib.Omega.{arith}
 use borrow.Author.Needs.{needs}
 use Rattle.words.proofs.PlaceLaws.{coll-words}
 use Rattle.words.specs.Words.{fromFaulty}
-use Rattle.paper.proofs.FormLaws.{wide-some}
 use Rattle.words.proofs.faulty_in.Statement.{statement}
 use Rattle.words.proofs.faulty_in.Tie as tie
 
@@ -12,16 +10,7 @@ pub faulty-in-spec : {M : Type 1} → statement M
 faulty-in-spec =
     tie.close
     (tie.spec
-    (λ c κs. search needs) (λ c κs. search needs) (λ c. search needs)
-    -- shared-slice-read-from-faulty
-    (λ c. let st = c .before .before .before .before in
-    omega (arith, st .pre .2, wide-some (st .args .s .level) .0, c .before .before .cell-at .ensures .1))
-    (λ c. search needs)
-    -- shared-slice-read-from-faulty-2
-    (λ c. let st = c .before .before .before .before .before in
-    omega (arith, st .pre .2, c .before .before .last-of .ensures .1, c .before .before .before .cell-at .ensures .1))
-    -- from-faulty-requires
-    (λ c κs. c .before .before .before .before .before .pre .0 .boards)
+    (λ c κs. search needs) (λ c κs. search needs) (λ c. search needs) (λ c. search needs) (λ c. search needs) (λ c. search needs) (λ c κs. search needs)
     -- returns
     (λ c. let last = c .before .before .before in let first = last .before in let a = first .before .before .args in
     let s = a .s in

@@ -1,31 +1,21 @@
 -- The cell's two words and the sent word show what was received and sent; the level's lowest source goes by these.
 use mathlib.Core.Path.{ap, ap₂, _∙_}
-use native.Mathlib.Omega.{arith}
 use borrow.Author.Needs.{needs}
 use Rattle.senders.specs.Tally.{least}
-use Rattle.words.proofs.PlaceLaws.{coll-words, sent-in-room, sent-word}
+use Rattle.paper.specs.Words.{size, sentAt}
+use Rattle.words.proofs.PlaceLaws.{coll-words, sent-word}
 use Rattle.words.specs.Words.{columnIn}
-use Rattle.paper.proofs.FormLaws.{wide-some}
 use Rattle.paper.specs.Form.{wide, shown}
 use Rattle.words.proofs.first_source.Statement.{statement}
 use Rattle.words.proofs.first_source.Tie as tie
 
 pub first-source-spec : {M : Type 1} → statement M
+unfolding sentAt size
 first-source-spec =
     tie.close
     (tie.spec
-    (λ c κs. search needs) (λ c κs. search needs) (λ c κs. search needs) (λ c. search needs)
-    -- shared-slice-read-first-source
-    (λ c. let st = c .before .before .before .before .before in let a = st .args in
-    omega (arith, st .pre .2 .fits, wide-some (a .s .level) .0, c .before .before .before .cell-at .ensures .1))
-    (λ c. search needs)
-    -- shared-slice-read-first-source-2
-    (λ c. let st = c .before .before .before .before .before .before in let a = st .args in
-    omega (arith, st .pre .2 .fits, c .before .before .before .last-of .ensures .1, c .before .before .before .before .cell-at .ensures .1))
-    (λ c. search needs)
-    -- shared-slice-read-first-source-3
-    (λ c. let st = c .before .before .before .before .before .before .before in let a = st .args in
-    omega (arith, st .pre .2 .fits, c .before .before .before .sent-at .ensures .0, sent-in-room (a .s) (a .m) (st .pre .1 .type)))
+    (λ c κs. search needs) (λ c κs. search needs) (λ c κs. search needs) (λ c. search needs) (λ c. search needs) (λ c. search needs) (λ c. search needs)
+    (λ c. search needs) (λ c. search needs)
     -- first-source-requires
     (λ c κs. let st = c .before .before .before .before .before .before .before in
     ((st .pre .0 .boards, st .pre .0 .wide), λ ne. st .pre .2 .small ne _))

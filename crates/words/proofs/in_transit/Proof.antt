@@ -1,31 +1,21 @@
 -- The cell's two words and the sent word show what was received and sent; the level decides by these.
 use mathlib.Core.Path.{ap, ap₂, _∙_}
-use native.Mathlib.Omega.{arith}
 use borrow.Author.Needs.{needs}
+use Rattle.paper.specs.Words.{size, sentAt}
 use Rattle.words.proofs.LevelCases.{source-few}
-use Rattle.words.proofs.PlaceLaws.{coll-words, sent-in-room, sent-word}
+use Rattle.words.proofs.PlaceLaws.{coll-words, sent-word}
 use Rattle.words.specs.Words.{columnIn}
-use Rattle.paper.proofs.FormLaws.{wide-some}
 use Rattle.paper.specs.Form.{wide, shown}
 use Rattle.words.proofs.in_transit.Statement.{statement}
 use Rattle.words.proofs.in_transit.Tie as tie
 
 pub in-transit-spec : {M : Type 1} → statement M
+unfolding sentAt size
 in-transit-spec =
     tie.close
     (tie.spec
-    (λ c κs. search needs) (λ c κs. search needs) (λ c κs. search needs) (λ c. search needs)
-    -- shared-slice-read-in-transit
-    (λ c. let st = c .before .before .before .before .before in let a = st .args in
-    omega (arith, st .pre .3 .fits, wide-some (a .s .level) .0, c .before .before .before .cell-at .ensures .1))
-    (λ c. search needs)
-    -- shared-slice-read-in-transit-2
-    (λ c. let st = c .before .before .before .before .before .before in let a = st .args in
-    omega (arith, st .pre .3 .fits, c .before .before .before .last-of .ensures .1, c .before .before .before .before .cell-at .ensures .1))
-    (λ c. search needs)
-    -- shared-slice-read-in-transit-3
-    (λ c. let st = c .before .before .before .before .before .before .before in let a = st .args in
-    omega (arith, st .pre .3 .fits, c .before .before .before .sent-at .ensures .0, sent-in-room (a .s) (a .m) (st .pre .1 .type)))
+    (λ c κs. search needs) (λ c κs. search needs) (λ c κs. search needs) (λ c. search needs) (λ c. search needs) (λ c. search needs) (λ c. search needs)
+    (λ c. search needs) (λ c. search needs)
     -- in-transit-requires
     (λ c κs. let st = c .before .before .before .before .before .before .before in let a = st .args in
     ((source-few (a .s .level) (a .s .correct) (a .s .faulty) (a .q) (st .pre .0 .boards) (st .pre .2 .below), st .pre .0 .boards, st .pre .0 .wide), λ ne. st .pre .3 .small ne _))

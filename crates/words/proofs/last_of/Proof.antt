@@ -18,4 +18,4 @@ last-of-spec =
     -- returns
     (λ c. let st = c .before in
     let k = st .args .s .level in
-    (ap (λ (x : ℕ). st .args .i + (x - 1)) (st .pre .0 .wide) ∙ ap (λ (x : ℕ). st .args .i + x) (slot-last k), omega (arith, st .pre .0 .wide, wide-some k .0), omega (arith, st .pre .0 .wide, wide-some k .1, st .pre .1))))
+    (ap (λ (x : ℕ). st .args .i + (x - 1)) (st .pre .0 .wide) ∙ ap (λ (x : ℕ). st .args .i + x) (slot-last k), omega arith, omega (arith, st .pre .0 .wide, wide-some k .0), omega (arith, st .pre .0 .wide, wide-some k .1, st .pre .1))))

@@ -1,6 +1,6 @@
 -- The states are the first words.
 use mathlib.Core.Path.{refl}
-use native.Mathlib.Omega.{arith}
+use borrow.Author.Needs.{needs}
 use Rattle.paper.specs.Words.{size, state}
 use Rattle.words.proofs.state_in.Statement.{statement}
 use Rattle.words.proofs.state_in.Tie as tie
@@ -10,10 +10,6 @@ unfolding size state
 state-in-spec =
     tie.close
     (tie.spec
-    -- mul-result
-    (λ c. omega (arith, c .pre .0 .boards, c .pre .1))
-    -- shared-slice-read-result
-    (λ c. let st = c .before in
-    omega (arith, st .pre .1, st .pre .2))
+    (λ c. search needs) (λ c. search needs)
     -- returns
     (λ c. refl))

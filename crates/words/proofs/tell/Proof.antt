@@ -2,28 +2,20 @@
 use native.Mathlib.Omega.{arith}
 use borrow.Author.Needs.{needs}
 use Rattle.words.proofs.LevelCases.{bump-own}
-use Rattle.words.proofs.PlaceLaws.{sent-in-room}
-use Rattle.paper.specs.Words.{sent}
+use Rattle.paper.specs.Words.{sent, size, sentAt}
 use Rattle.words.proofs.tell.Statement.{statement}
 use Rattle.words.proofs.tell.Tie as tie
 
 pub tell-spec : {M : Type 1} → statement M
-unfolding sent
+unfolding sent sentAt size
 tell-spec =
     tie.close
     (tie.spec
-    (λ c κs. search needs) (λ c. search needs)
-    -- slice-read-bump
-    (λ c. let st = c .before .before .before in let a = st .args in
-    omega (arith, st .pre .2 .fits, c .before .sent-at .ensures .0, sent-in-room (a .s) (a .m) (st .pre .1 .type)))
+    (λ c κs. search needs) (λ c. search needs) (λ c. search needs)
     -- bump-requires
     (λ c κs. let st = c .before .before .before in
     (omega (arith, st .pre .0 .boards, st .pre .1 .board), λ ne. st .pre .2 .small ne _))
-    (λ c. search needs)
-    -- slice-write-w
-    (λ c. let st = c .before .before .before .before in let a = st .args in
-    omega (arith, st .pre .2 .fits, c .before .before .sent-at .ensures .0, sent-in-room (a .s) (a .m) (st .pre .1 .type)))
-    (λ c. search needs)
+    (λ c. search needs) (λ c. search needs) (λ c. search needs)
     -- returns
     (λ c. let a = c .before .before .before .before .args in
     rw (c .bump .ensures, c .before .before .sent-at .ensures .0, bump-own (a .s .level) (a .s .correct) (a .s .faulty) (a .p))))

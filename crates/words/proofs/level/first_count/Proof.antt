@@ -2,6 +2,7 @@
 use mathlib.Core.Path.{ap, _∙_}
 use Prim.Native.Nat.{ℕ}
 use native.Mathlib.Omega.{arith}
+use borrow.Author.Needs.{needs}
 use Rattle.words.proofs.LevelCases.{limitOf, first-zero, first-one, first-none}
 use Rattle.words.proofs.level.first_count.Statement.{statement}
 use Rattle.words.proofs.level.first_count.Tie as tie
@@ -10,8 +11,7 @@ pub first-count-spec : {M : Type 1} → statement M
 first-count-spec =
     tie.close
     (tie.spec
-    -- limit-requires
-    (λ c κs. (c .pre .0, c .pre .3))
+    (λ c κs. search needs)
     -- returns
     (λ c. let st = c .before .before in let a = st .args in
     first-zero (a .c) (a .f) (a .v) (a .w) (a .out) (a .level) (st .pre .2) (omega (arith, c .if1 .taken, c .before .limit .ensures ∙ ap (λ (x : ℕ). limitOf x (a .f) (a .out)) (st .pre .1))))

@@ -9,13 +9,7 @@ pub receive-spec : {M : Type 1} → statement M
 receive-spec =
     tie.close
     (tie.spec
-    (λ c. search needs)
-    -- slice-read-with
-    (λ c. omega (arith, c .before .before .before .pre .0 .2))
-    (λ c κs. search needs) (λ c. search needs)
-    -- slice-write-w
-    (λ c. omega (arith, c .before .before .before .before .pre .0 .2))
-    (λ c. search needs)
+    (λ c. search needs) (λ c. search needs) (λ c κs. search needs) (λ c. search needs) (λ c. search needs) (λ c. search needs)
     -- returns
     (λ c. let a = c .before .before .before .before .args in
     set-received (a .level) (a .i) (a .q) (a .w .now) (c .before .before .if1 .taken) (c .with .ensures))
