@@ -96,7 +96,7 @@ mod script {
             ("host/Cargo.lock", "version = 3\n\n[[package]]\nname = \"macaroosh\"\nversion = \"0.1.0\"\n"),
             ("host/build.rs", "fn main() {}\n"),
             ("host/src/main.rs", MAIN),
-            ("crates/capi/src/lib.rt", ""),
+            ("crates/capi/src/lib.text", ""),
             ("target/staticlib/libcapi.a", ""),
         ];
         for (file, text) in files {

@@ -31,7 +31,7 @@ with-message-spec =
     (λ c. let moving = c .before in let form = moving .before .before .before in let st = form .before .before .before .before in let a = st .args in
     fault-away (a .s) (a .ends .now) (a .leasts .now) (a .w .now) (meant (a .x)) (st .pre .4) (st .pre .5) (form .malformed .ensures) (moving .before .before .if1 .left) (ap not (moving .in-transit .ensures)) (c .if2 .taken))
     -- not-met-requires
-    (λ c κs. let st = c .before .before .before .before .before .before .before .before .before in let a = st .args in
+    (λ c κs. let form = c .before .before .before .before .before in let st = form .before .before .before .before in let a = st .args in
     (st .pre .0, st .pre .2, st .pre .4 .board, st .pre .4 .rule, holds-more (a .s) atRest inStep (a .w .now) (omega arith) (st .pre .3)))
     (λ c. search needs)
     -- returns-3
@@ -40,11 +40,12 @@ with-message-spec =
     let A = arrives-by (a .s) (a .ends .now) (a .leasts .now) (a .w .now) (meant (a .x)) (st .pre .4) (st .pre .5) (form .malformed .ensures) (moving .before .before .if1 .left) (ap not (moving .in-transit .ensures)) (met .before .before .if2 .left) in
     fault-unmet (a .s) (a .ends .now) (a .leasts .now) (a .w .now) (meant (a .x)) (st .pre .0 .types) (st .pre .3 .fits) A (met .not-met .ensures) (c .if3 .taken))
     -- hear-requires
-    (λ c κs. let form = c .before .before .before .before .before .before .before .before in let st = form .before .before .before .before in let a = st .args in
-    let N = named-by (a .s) (a .ends .now) (a .leasts .now) (a .w .now) (meant (a .x)) (st .pre .4) (st .pre .5) (form .malformed .ensures) (c .before .before .before .before .before .before .before .if1 .left) in
+    (λ c κs. let moving = c .before .before .before .before .before in let form = moving .before .before .before in let st = form .before .before .before .before in let a = st .args in
+    let N = named-by (a .s) (a .ends .now) (a .leasts .now) (a .w .now) (meant (a .x)) (st .pre .4) (st .pre .5) (form .malformed .ensures) (moving .before .before .if1 .left) in
     (st .pre .0, record { board = st .pre .4 .board; type = N .type }, record { below = N .source }, holds-more (a .s) atRest inStep (a .w .now) (omega arith) (st .pre .3)))
     -- move-on-requires
-    (λ c κs. let got = c .before .before .before in let st = got .before .before .before .before .before .before .before .before .before .before .before .before .before in let a = st .args in
+    (λ c κs. let got = c .before .before .before in let met = got .before .before .before in let moving = met .before .before .before in
+    let form = moving .before .before .before in let st = form .before .before .before .before in let a = st .args in
     let e = got .hear .ensures ∙ sym (heard-message (a .s .level) (sized (a .s)) (a .w .now) (meant (a .x)) (st .pre .5)) in
     (st .pre .0, st .pre .1, st .pre .4 .board, st .pre .4 .rule, subst⁻¹ (Holds (a .s) inStep) e (holds-more (a .s) (atRest + 1) inStep _ (omega arith) (holds-heard (a .s) (a .w .now) (meant (a .x)) atRest (st .pre .3)))))
     (λ c. search needs)
