@@ -9,4 +9,5 @@ pack-spec =
     tie.close
     (tie.spec
     (λ c. search needs) (λ c. search needs) (λ c. search needs) (λ c. search needs)
+    -- returns
     (λ c. omega arith))

@@ -10,4 +10,5 @@ pack-step-spec =
     (tie.spec
     (λ c. search needs) (λ c. search needs) (λ c. search needs) (λ c. search needs) (λ c. search needs)
     (λ c. search needs) (λ c. search needs) (λ c. search needs)
+    -- returns
     (λ c. omega arith))

@@ -10,5 +10,7 @@ pub short-spec : {M : Type 1} → statement M
 short-spec =
     tie.close
     (tie.spec
+    -- returns
     (λ c. if-yes _ refl refl (lt-ltb (c .before .args .place) 16777216 (omega (arith, c .if1 .taken))))
+    -- returns-2
     (λ c. if-no _ refl (le-ltb _ _ (c .if1 .left)) refl))

@@ -11,6 +11,7 @@ raw-spec =
     tie.close
     (tie.spec
     (λ c. search needs) (λ c κs. search needs) (λ c κs. search needs) (λ c κs. search needs) (λ c. search needs)
+    -- slice-aggregate-read-fault
     (λ c. sym (length-take-le _ _ (omega arith)))
     (λ c. search needs) (λ c κs. search needs) (λ c κs. search needs)
     (λ c. search needs))

@@ -12,6 +12,7 @@ read-in-spec =
     (tie.spec
     (λ c κs. search needs) (λ c κs. search needs) (λ c κs. search needs) (λ c κs. search needs) (λ c κs. search needs)
     (λ c. search needs)
+    -- slice-aggregate-read-fault
     (λ c. sym (length-take-le _ _ (omega arith)))
     (λ c. search needs) (λ c κs. search needs) (λ c. search needs)
     (λ c. search needs))

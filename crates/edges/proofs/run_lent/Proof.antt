@@ -11,6 +11,7 @@ run-lent-spec =
     tie.close
     (tie.spec
     (λ c. search needs) (λ c. search needs)
+    -- slice-aggregate-run
     (λ c. sym (length-take-le _ _ (omega arith)))
     (λ c κs. search needs) (λ c. search needs) (λ c κs. search needs) (λ c κs. search needs) (λ c κs. search needs)
     (λ c κs. search needs) (λ c κs. search needs) (λ c. search needs) (λ c κs. search needs) (λ c. search needs)
