@@ -1,30 +1,19 @@
 //! The program: its commands, its refusals in words, mistakes of its user, and what becomes of files.
 
+mod start;
+
 use judge::dice::Dice;
 use judge::drawings::Text;
 use judge::makers::bundles::any;
 use judge::makers::sketches;
 use judge::model::{read_table, report, Model};
 use macaroosh::{Form, MOST_BYTES};
+use start::{given, program, PROGRAM};
 use std::ffi::OsStr;
 use std::fs::{self, File};
-use std::io::{Read, Write};
+use std::io::Read;
 use std::path::{Path, PathBuf};
 use std::process::{Command, Output, Stdio};
-
-const PROGRAM: &str = env!("CARGO_BIN_EXE_macaroosh");
-
-// The program, under the emulator where the build was for another processor.
-fn program() -> Command {
-    match std::env::var_os("MACAROOSH_RUNNER") {
-        Some(runner) => {
-            let mut command = Command::new(runner);
-            command.arg(PROGRAM);
-            command
-        }
-        None => Command::new(PROGRAM),
-    }
-}
 
 fn example(name: &str) -> PathBuf {
     Path::new(env!("CARGO_MANIFEST_DIR")).join("../examples").join(name)
@@ -40,15 +29,6 @@ fn room(name: &str) -> PathBuf {
 
 fn asked<S: AsRef<OsStr>>(words: &[S]) -> Output {
     program().args(words).stdin(Stdio::null()).output().expect("the program starts")
-}
-
-fn asked_with_input(words: &[&str], input: &[u8]) -> Output {
-    let mut command = program();
-    command.args(words).stdin(Stdio::piped()).stdout(Stdio::piped()).stderr(Stdio::piped());
-    let mut child = command.spawn().expect("the program starts");
-    // It stops reading past its limit; a closed pipe is no fault of the test.
-    let _ = child.stdin.take().expect("its input").write_all(input);
-    child.wait_with_output().expect("the program ends")
 }
 
 fn text(bytes: &[u8]) -> &str {
@@ -224,15 +204,15 @@ as bytes: 00 04 00 00
     says(&["first"], "quiet.bundle", 0, shown, "");
     says(&["first", "--plain"], "quiet.bundle", 0, "result 0 0\nnone\n", "");
     let counting = asked(&[OsStr::new("translate"), example("quiet.bundle").as_os_str()]).stdout;
-    assert_eq!(text(&asked_with_input(&["first", "-"], &counting).stdout), shown);
+    assert_eq!(text(&given(&["first", "-"], &counting).stdout), shown);
     says(&["first"], "w-echo-twice.bundle", 1, "", TWICE);
     says(&["first", "--plain"], "w-echo-twice.bundle", 1, "result 24 4\nnone\n", "");
     // One state, and its rule asks for a message that nobody sends.
     let quiet = b"\x01\x00\x00\x00\x00\x00\x01\x07\x00\x05\x00\x01\x01\x01\x01\x00\x00\x00\x01\x00\x01\x00\x00\x00";
-    let got = asked_with_input(&["first", "-"], quiet);
+    let got = given(&["first", "-"], quiet);
     let shown = "after 0 steps the run is quiet: no board can do anything but wait\n";
     assert_eq!((got.status.code(), text(&got.stdout)), (Some(0), shown));
-    let got = asked_with_input(&["first", "-", "--plain"], quiet);
+    let got = given(&["first", "-", "--plain"], quiet);
     assert_eq!((got.status.code(), text(&got.stdout)), (Some(0), "result 0 0\nnone\n"));
 }
 
@@ -254,7 +234,7 @@ fn translate_writes_the_other_form() {
         assert_eq!(fs::read(&out).expect("the output"), bundle(to));
     }
     assert_eq!(fs::read_dir(&room).expect("the folder").count(), 2);
-    let got = asked_with_input(&["translate", "-", "--plain"], &bundle("w.bundle"));
+    let got = given(&["translate", "-", "--plain"], &bundle("w.bundle"));
     assert_eq!((text(&got.stderr), got.stdout), ("result 0 0 31\n", bundle("w-counting.bundle")));
     says(&["translate"], "w-echo-twice.bundle", 1, "", TWICE);
     says(&["translate", "--plain"], "w-echo-twice.bundle", 1, "", "result 24 4 0\n");
@@ -282,7 +262,7 @@ fn translate_writes_the_form_asked_for() {
     // The senders that plain W is given are correct ones, and back it is the same.
     for form in ["message", "counting"] {
         let there = to(form, "w-plain.bundle").stdout;
-        let back = asked_with_input(&["translate", "-", "--to", "plain"], &there);
+        let back = given(&["translate", "-", "--to", "plain"], &there);
         assert_eq!((back.status.code(), back.stdout), (Some(0), bundle("w-plain.bundle")), "plain to {form}");
         let sources = [[0, 1, 2], [0, 0, 0]][usize::from(form == "counting")];
         assert_eq!([14, 18, 22].map(|at| there[at]), sources, "plain to {form}");
@@ -312,7 +292,7 @@ fn draw_writes_the_drawing_and_undraw_the_table() {
         let told = format!("wrote {length} bytes to {}: a {thing} of 4 states and 7 rules\n", out.display());
         assert_eq!(text(&got.stderr), told);
         assert_eq!(fs::read(&out).expect("the output"), output);
-        let got = asked_with_input(&[command, "--plain", "-"], &bytes(from));
+        let got = given(&[command, "--plain", "-"], &bytes(from));
         assert_eq!((text(&got.stderr), &got.stdout), (&*format!("result 0 0 {length}\n"), &output));
     }
     assert_eq!(fs::read_dir(&room).expect("the folder").count(), 2);
@@ -324,9 +304,9 @@ fn undraw_says(from: &str, to: &str, told: &str, plain: &str) {
     let drawing = fs::read_to_string(example("echo.dot")).expect("an example");
     assert!(drawing.contains(from));
     let edited = drawing.replacen(from, to, 1);
-    let got = asked_with_input(&["undraw", "-"], edited.as_bytes());
+    let got = given(&["undraw", "-"], edited.as_bytes());
     assert_eq!((got.status.code(), text(&got.stdout), text(&got.stderr)), (Some(1), "", told));
-    let got = asked_with_input(&["undraw", "-", "--plain"], edited.as_bytes());
+    let got = given(&["undraw", "-", "--plain"], edited.as_bytes());
     assert_eq!((got.status.code(), text(&got.stdout), text(&got.stderr)), (Some(1), "", plain));
 }
 
@@ -361,14 +341,14 @@ s0 ->
       ^
 ";
     let drawing = fs::read(example("echo.dot")).expect("an example");
-    assert_eq!(text(&asked_with_input(&["undraw", "-"], &drawing[..100]).stderr), told);
+    assert_eq!(text(&given(&["undraw", "-"], &drawing[..100]).stderr), told);
     let nothing = "\
 refused 60 at byte 0: the text is no drawing; up to there it could be one
 line 1, column 1, where the text ends:
 
 ^
 ";
-    assert_eq!(text(&asked_with_input(&["undraw", "-"], b"").stderr), nothing);
+    assert_eq!(text(&given(&["undraw", "-"], b"").stderr), nothing);
 }
 
 #[test]
@@ -381,7 +361,7 @@ line 1, column 134:
 ... [label=\"2 1\"];s0 -> s0 [label=\"0 0 0\"];s0 -> s2 [label=\"0 1\"];s0 -> s3 [label=\"1 -1 0\"];s1 -> s2 [label=\"0 0 0\"];s2 -> ...
                                                                ^
 ";
-    let got = asked_with_input(&["undraw", "-"], wrong.as_bytes());
+    let got = given(&["undraw", "-"], wrong.as_bytes());
     assert_eq!((got.status.code(), text(&got.stderr)), (Some(1), told));
 }
 
@@ -417,7 +397,7 @@ fn a_table_that_is_none_is_not_drawn() {
         says(words, "w.bundle", 1, "", &format!("{COUNTS}this is a bundle, and without a table of its own\n"));
     }
     says(&["draw", "--plain"], "w.bundle", 1, "", "result 2 0 0\n");
-    let got = asked_with_input(&["draw", "-"], b"");
+    let got = given(&["draw", "-"], b"");
     assert_eq!((got.status.code(), text(&got.stderr)), (Some(1), "refused 1: the table part is under 8 bytes\n"));
 }
 
@@ -481,7 +461,7 @@ fn a_standing_table_is_read_where_the_bundle_has_none() {
     assert_eq!((got.status.code(), text(&got.stdout)), (Some(1), "result 2 0 0\n"));
     let w = example("w.bundle");
     let table = fs::read(example("echo.table")).expect("the table");
-    let got = asked_with_input(&["first", "--plain", "--standing", "-", w.to_str().expect("a name")], &table);
+    let got = given(&["first", "--plain", "--standing", "-", w.to_str().expect("a name")], &table);
     assert_eq!(text(&got.stdout), "result 0 0\nstep 0 4 0 0\n");
 }
 
@@ -617,7 +597,7 @@ fn a_gigabyte_is_not_read() {
 
 #[test]
 fn a_bundle_past_the_largest_is_refused_and_not_a_mistake() {
-    let got = asked_with_input(&["run", "-", "--plain"], &vec![0; MOST_BYTES + 1]);
+    let got = given(&["run", "-", "--plain"], &vec![0; MOST_BYTES + 1]);
     assert_eq!((got.status.code(), text(&got.stdout)), (Some(1), "result 2 0 0\n"));
 }
 
@@ -694,14 +674,14 @@ fn a_closed_pipe_ends_quietly() {
 fn no_bundle_makes_it_stumble() {
     for seed in 1..=100 {
         let bundle = any(&mut Dice::new(seed));
-        let got = asked_with_input(&["run", "--plain", "-"], &bundle);
+        let got = given(&["run", "--plain", "-"], &bundle);
         assert_eq!(text(&got.stdout), report(&bundle), "seed {seed}");
         let refused = !report(&bundle).starts_with("result 0 ");
         let own = bundle.last().and_then(|&number| Form::of(u64::from(number)));
         let translations = Form::ALL.map(|form| (vec!["translate", "--to", form.name()], refused || own == Some(form)));
         let others = ["run", "trace", "first", "translate"].map(|command| (vec![command], refused));
         for (words, refused) in others.into_iter().chain(translations) {
-            let got = asked_with_input(&[&words[..], &["-"]].concat(), &bundle);
+            let got = given(&[&words[..], &["-"]].concat(), &bundle);
             assert_eq!(got.status.code(), Some(i32::from(refused)), "seed {seed}: {words:?}");
             assert_eq!(text(&got.stderr).starts_with("refused "), refused, "seed {seed}: {words:?}");
         }
@@ -715,7 +695,7 @@ fn no_table_or_text_makes_it_stumble() {
         let cases =
             [("draw", &table, read_table(&table).is_err()), ("undraw", &drawing, Model.table(&drawing).is_err())];
         for (command, input, refused) in cases {
-            let got = asked_with_input(&[command, "-"], input);
+            let got = given(&[command, "-"], input);
             assert_eq!(got.status.code(), Some(i32::from(refused)), "seed {seed}: {command}");
             assert_eq!(text(&got.stderr).starts_with("refused "), refused, "seed {seed}: {command}");
             assert_eq!(got.stdout.is_empty(), refused, "seed {seed}: {command}");

@@ -2,6 +2,7 @@
 //! model, which shares no code with what says it.
 
 mod reader;
+mod start;
 
 use judge::dice::Dice;
 use judge::drawings::{Drawing, Text};
@@ -10,34 +11,11 @@ use judge::model::{read, read_table, Bundle, Configuration, Messages, Model, Out
 use macaroosh::calls::Step;
 use macaroosh::{Form, Refusal, ECHO, MOST_STEPS};
 use reader::Json;
+use start::given;
 use std::collections::BTreeMap;
 use std::fs;
-use std::io::Write;
 use std::path::{Path, PathBuf};
-use std::process::{Command, Output, Stdio};
-
-const PROGRAM: &str = env!("CARGO_BIN_EXE_macaroosh");
-
-// The program, under the emulator where the build was for another processor.
-fn program() -> Command {
-    match std::env::var_os("MACAROOSH_RUNNER") {
-        Some(runner) => {
-            let mut command = Command::new(runner);
-            command.arg(PROGRAM);
-            command
-        }
-        None => Command::new(PROGRAM),
-    }
-}
-
-fn asked(words: &[&str], input: &[u8]) -> Output {
-    let mut command = program();
-    command.args(words).stdin(Stdio::piped()).stdout(Stdio::piped()).stderr(Stdio::piped());
-    let mut child = command.spawn().expect("the program starts");
-    // It may end before it reads, where the words are wrong.
-    let _ = child.stdin.take().expect("its input").write_all(input);
-    child.wait_with_output().expect("the program ends")
-}
+use std::process::Output;
 
 fn example(name: &str) -> Vec<u8> {
     fs::read(Path::new(env!("CARGO_MANIFEST_DIR")).join("../examples").join(name)).expect("an example")
@@ -49,12 +27,12 @@ fn text(bytes: &[u8]) -> &str {
 
 // What standard output says to an input.
 fn output(words: &[&str], input: &[u8]) -> String {
-    text(&asked(words, input).stdout).to_string()
+    text(&given(words, input).stdout).to_string()
 }
 
 // The lines below a refusal; they are the same for each command that runs the bundle.
 fn told(words: &[&str], input: &[u8], refusal: Refusal) -> Vec<String> {
-    let got = asked(words, input);
+    let got = given(words, input);
     assert_eq!(got.status.code(), Some(1));
     let mut lines = text(&got.stderr).lines().map(str::to_string);
     let first = lines.next().expect("a line");
@@ -285,16 +263,16 @@ refused 24 at step 4: the message is not in transit
 that step is board 2, rule 5, type 0, source 0
 board 2 has heard type 0 from board 0 already, in step 2
 ";
-    assert_eq!(text(&asked(&["run", "-"], &twice).stderr), told);
+    assert_eq!(text(&given(&["run", "-"], &twice).stderr), told);
     for words in [["run", "--plain", "-"], ["run", "--json", "-"]] {
-        assert_eq!(text(&asked(&words, &twice).stderr), "");
+        assert_eq!(text(&given(&words, &twice).stderr), "");
     }
     let told = "\
 refused 25 at step 0: a threshold is not met
 that step is board 0, rule 1, type 0, source 3
 rule 1 asks for 2 of type 0 (t + 1), board 0 has 1, this one included
 ";
-    assert_eq!(text(&asked(&["run", "-"], &example("one-echo.bundle")).stderr), told);
+    assert_eq!(text(&given(&["run", "-"], &example("one-echo.bundle")).stderr), told);
     // W's second step again, and its last one without a message.
     let again = |step| bundles::with(&example("w.bundle"), Step::of(step));
     let told = "\
@@ -302,13 +280,13 @@ refused 22 at step 5: the rule does not leave the board's state
 that step is board 1, rule 3, no message
 board 1 is in state 2, rule 3 leaves state 1
 ";
-    assert_eq!(text(&asked(&["run", "-"], &again([1, 3, 255, 255])).stderr), told);
+    assert_eq!(text(&given(&["run", "-"], &again([1, 3, 255, 255])).stderr), told);
     let told = "\
 refused 25 at step 5: a threshold is not met
 that step is board 1, rule 5, no message
 rule 5 asks for 3 of type 0 (n - t), board 1 has 0
 ";
-    assert_eq!(text(&asked(&["first", "-"], &again([1, 5, 255, 255])).stderr), told);
+    assert_eq!(text(&given(&["first", "-"], &again([1, 5, 255, 255])).stderr), told);
 }
 
 #[test]
@@ -320,7 +298,7 @@ refused 13: the step distance is no multiple of 4 or over 16,384, or the second 
 its trailer says that steps begin 24 bytes before it and starts 23
 with 3 starts it would have to say 24 and 27 (6 steps) or 20 and 23 (5 steps)
 ";
-    assert_eq!(text(&asked(&["run", "-"], &w).stderr), told);
+    assert_eq!(text(&given(&["run", "-"], &w).stderr), told);
     let mut table = ECHO;
     table[43] = 42;
     let told = "\
@@ -328,7 +306,7 @@ refused 3: the table's distances disagree with its counts or its length
 its trailer says that states begin 42 bytes before it and rules 35, and 43 are before it
 4 states of 2 bytes and 7 rules of 5 make that 43, 35 and 43
 ";
-    assert_eq!(text(&asked(&["draw", "-"], &table).stderr), told);
+    assert_eq!(text(&given(&["draw", "-"], &table).stderr), told);
 }
 
 #[test]
@@ -451,7 +429,7 @@ fn which_table_is_refused_is_said() {
     assert!(seen.iter().all(|&times| times >= 20), "{seen:?}");
     // A bundle in place of the standing table.
     fs::write(&path, example("ready.bundle")).expect("a file");
-    let got = asked(&["run", "-", "--standing", path.to_str().expect("a name")], &example("w.bundle"));
+    let got = given(&["run", "-", "--standing", path.to_str().expect("a name")], &example("w.bundle"));
     let told = "\
 refused 3: the table's distances disagree with its counts or its length
 that is the standing table, since the bundle has none of its own
@@ -462,7 +440,7 @@ its file is a bundle; draw --of draws the table of one
 
 // The last line of what is told of a refused input.
 fn last_line(words: &[&str], input: &[u8]) -> String {
-    let got = asked(words, input);
+    let got = given(words, input);
     assert_eq!(got.status.code(), Some(1), "{words:?}");
     text(&got.stderr).lines().last().expect("a line").to_string()
 }
@@ -489,7 +467,7 @@ fn a_table_is_no_bundle_and_a_bundle_no_table_and_that_is_said() {
         assert_eq!(last_line(&["draw", "-"], &bundle), said, "seed {seed}");
         assert_eq!(last_line(&["undraw", "-"], &bundle), "this is a bundle; see run", "seed {seed}");
     }
-    assert_eq!(text(&asked(&["run", "--plain", "-"], &ECHO).stdout), "result 2 0 0\n");
+    assert_eq!(text(&given(&["run", "--plain", "-"], &ECHO).stdout), "result 2 0 0\n");
 }
 
 #[test]
@@ -501,7 +479,7 @@ fn what_is_nothing_else_is_not_said_to_be() {
             let is = [read(&input, &ECHO).is_ok(), read_table(&input).is_ok(), Model.table(&input).is_ok()];
             let wanted = ["run", "draw", "undraw"].iter().position(|&word| word == command).expect("a command");
             let other = (0..3).any(|kind| kind != wanted && is[kind]);
-            let said = text(&asked(&[command, "-"], &input).stderr).contains("\nthis is ");
+            let said = text(&given(&[command, "-"], &input).stderr).contains("\nthis is ");
             assert_eq!(said, other && !is[wanted], "seed {seed}: {command}");
         }
     }
@@ -514,7 +492,7 @@ fn the_table_of_a_bundle_is_drawn() {
         let bundle = bundles::bundle(&mut Dice::new(seed));
         let starts = usize::from(bundle[bundle.len() - 6]) + 256 * usize::from(bundle[bundle.len() - 5]);
         let front = &bundle[..bundle.len() - 8 - starts];
-        let got = asked(&["draw", "--of", "-"], &bundle);
+        let got = given(&["draw", "--of", "-"], &bundle);
         if front.is_empty() {
             let told = "macaroosh: this bundle has no table of its own; it is read beside a standing table\n";
             assert_eq!((got.status.code(), &got.stdout[..], text(&got.stderr)), (Some(2), &[][..], told));
@@ -526,13 +504,13 @@ fn the_table_of_a_bundle_is_drawn() {
     }
     assert!((10..60).contains(&with_table), "{with_table}");
     // What is not a bundle by its trailer, and a front that is no table.
-    let got = asked(&["draw", "--of", "-"], b"short");
+    let got = given(&["draw", "--of", "-"], b"short");
     assert_eq!((got.status.code(), text(&got.stderr)), (Some(1), "refused 10: the bundle is under 8 bytes\n"));
-    let got = asked(&["draw", "--of", "--plain", "-"], b"\0\0\x09\0\x04\0\0\0");
+    let got = given(&["draw", "--of", "--plain", "-"], b"\0\0\x09\0\x04\0\0\0");
     assert_eq!((got.status.code(), text(&got.stderr)), (Some(1), "result 11 0 0\n"));
     let broken = [&[7], &example("w.bundle")[..]].concat();
     let told = "refused 1: the table part is under 8 bytes\nthat is the bundle's own table, its first 1 byte\n";
-    let got = asked(&["draw", "--of", "-"], &broken);
+    let got = given(&["draw", "--of", "-"], &broken);
     assert_eq!((got.status.code(), text(&got.stderr)), (Some(1), told));
 }
 
@@ -598,7 +576,7 @@ board  rule  from -> to           receives                     as bytes
     assert_eq!(output(&["first", "--all", "-"], &example("w-counting.bundle")), shown);
     let quiet = "after 16 steps the run is quiet: no board can do anything but wait\n";
     assert_eq!(output(&["first", "--all", "-"], &example("quiet.bundle")), quiet);
-    let got = asked(&["first", "--all", "-"], &example("w-echo-twice.bundle"));
+    let got = given(&["first", "--all", "-"], &example("w-echo-twice.bundle"));
     assert_eq!((got.status.code(), text(&got.stdout)), (Some(1), ""));
     assert!(text(&got.stderr).starts_with("refused 24 at step 4: "));
 }
@@ -616,7 +594,7 @@ fn waiting(steps: usize) -> Vec<u8> {
 #[test]
 fn of_the_longest_schedule_only_the_first_step_is_known() {
     let most = waiting(MOST_STEPS);
-    let got = asked(&["first", "--all", "-"], &most);
+    let got = given(&["first", "--all", "-"], &most);
     let told = "macaroosh: --all runs each step as one more, and this schedule has 4096, the most that there can be; first without --all names the first\n";
     assert_eq!((got.status.code(), text(&got.stdout), text(&got.stderr)), (Some(2), "", told));
     assert_eq!(output(&["first", "--plain", "-"], &most), "result 0 0\nstep 0 4 0 0\n");
@@ -730,11 +708,11 @@ fn json_has_the_numbers_of_plain() {
             (&["first", "--all"], as_first),
         ];
         for (words, as_plain) in commands {
-            let [json, plain] = ["--json", "--plain"].map(|style| asked(&[words, &[style, "-"]].concat(), &bytes));
+            let [json, plain] = ["--json", "--plain"].map(|style| given(&[words, &[style, "-"]].concat(), &bytes));
             assert_eq!((json.status.code(), text(&json.stderr)), (plain.status.code(), ""), "seed {seed}: {words:?}");
             let read = Json::read(text(&json.stdout));
             assert_eq!(as_plain(&read), text(&plain.stdout), "seed {seed}: {words:?}");
-            says_why(&read, &asked(&[words, &["-"]].concat(), &bytes));
+            says_why(&read, &given(&[words, &["-"]].concat(), &bytes));
         }
         let json = Json::read(&output(&["run", "--json", "-"], &bytes));
         *refused.entry(json.number("refusal")).or_insert(0) += 1;
@@ -812,7 +790,7 @@ fn wrong_words_are_told() {
         (&["trace", "x", "--board"], "--board needs a number after it"),
     ];
     for (words, told) in mistakes {
-        let got = asked(words, b"");
+        let got = given(words, b"");
         assert_eq!((got.status.code(), text(&got.stdout)), (Some(2), ""), "{words:?}");
         assert!(text(&got.stderr).contains(told), "{}", text(&got.stderr));
     }

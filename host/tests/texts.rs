@@ -1,6 +1,8 @@
 //! Bundles as text: what `unpack` writes `pack` reads back to the same bytes, and a mistake in a text is told where it is.
 //! `TEXTS=n` tries more than 7,500 seeds.
 
+mod start;
+
 use judge::dice::{each_seed, seeds, Dice};
 use judge::makers::bundles::{bundle, case, closed};
 use judge::makers::sketches;
@@ -9,25 +11,10 @@ use macaroosh::calls::{run, Step};
 use macaroosh::parts::Parts;
 use macaroosh::terms::refusals;
 use macaroosh::{Form, ECHO, MOST_WORDS};
+use start::{given, program};
 use std::collections::{BTreeMap, BTreeSet};
 use std::fs;
-use std::io::Write;
 use std::path::{Path, PathBuf};
-use std::process::{Command, Output, Stdio};
-
-const PROGRAM: &str = env!("CARGO_BIN_EXE_macaroosh");
-
-// The program, under the emulator where the build was for another processor.
-fn program() -> Command {
-    match std::env::var_os("MACAROOSH_RUNNER") {
-        Some(runner) => {
-            let mut command = Command::new(runner);
-            command.arg(PROGRAM);
-            command
-        }
-        None => Command::new(PROGRAM),
-    }
-}
 
 fn example(name: &str) -> PathBuf {
     Path::new(env!("CARGO_MANIFEST_DIR")).join("../examples").join(name)
@@ -45,29 +32,20 @@ fn room(name: &str) -> PathBuf {
     room
 }
 
-fn asked(words: &[&str], input: &[u8]) -> Output {
-    let mut command = program();
-    command.args(words).stdin(Stdio::piped()).stdout(Stdio::piped()).stderr(Stdio::piped());
-    let mut child = command.spawn().expect("the program starts");
-    // It may stop reading early; a closed pipe is no fault of the test.
-    let _ = child.stdin.take().expect("its input").write_all(input);
-    child.wait_with_output().expect("the program ends")
-}
-
 fn shown(bytes: &[u8]) -> &str {
     std::str::from_utf8(bytes).expect("text")
 }
 
 // The text of a bundle that is read beside the echo table.
 fn unpacked(bundle: &[u8]) -> String {
-    let got = asked(&["unpack", "-"], bundle);
+    let got = given(&["unpack", "-"], bundle);
     assert_eq!(got.status.code(), Some(0), "{}", shown(&got.stderr));
     shown(&got.stdout).to_string()
 }
 
 // The bundle of a text that is read beside the echo table.
 fn packed(text: &str) -> Vec<u8> {
-    let got = asked(&["pack", "-"], text.as_bytes());
+    let got = given(&["pack", "-"], text.as_bytes());
     assert_eq!(got.status.code(), Some(0), "{}\n{text}", shown(&got.stderr));
     got.stdout
 }
@@ -108,11 +86,11 @@ const FORMS: [(&str, &str, &str); 3] =
 #[test]
 fn each_form_has_its_text() {
     for (name, form, text) in FORMS {
-        let got = asked(&["unpack", "-"], &bytes(name));
+        let got = given(&["unpack", "-"], &bytes(name));
         assert_eq!((got.status.code(), shown(&got.stdout)), (Some(0), text));
         let told = format!("wrote {} bytes: the text of a bundle in {form} form with 5 steps\n", text.len());
         assert_eq!(shown(&got.stderr), told);
-        let got = asked(&["pack", "-"], text.as_bytes());
+        let got = given(&["pack", "-"], text.as_bytes());
         assert_eq!((got.status.code(), got.stdout), (Some(0), bytes(name)));
         assert_eq!(shown(&got.stderr), format!("wrote 31 bytes: a bundle in {form} form with 5 steps\n"));
     }
@@ -228,19 +206,19 @@ fn there_and_back(room: &Path, seed: u64) -> Result<(Form, bool, bool), u8> {
         fs::write(&beside, &standing).expect("a file");
         words.extend(["--standing", beside.to_str().expect("a name")]);
     }
-    let got = asked(&[&["unpack"], &words[..]].concat(), &bundle);
+    let got = given(&[&["unpack"], &words[..]].concat(), &bundle);
     let reading = read(&bundle, &standing);
     match &reading {
         Err(refusal) => {
             // As a run says it.
-            let ran = asked(&[&["run"], &words[..]].concat(), &bundle);
+            let ran = given(&[&["run"], &words[..]].concat(), &bundle);
             let said = (got.status.code(), shown(&got.stdout), shown(&got.stderr));
             assert_eq!(said, (Some(1), "", shown(&ran.stderr)), "seed {seed}");
             assert!(said.2.starts_with(&(refusals::told(*refusal) + "\n")), "seed {seed}: {}", said.2);
         }
         Ok(_) => {
             assert_eq!(got.status.code(), Some(0), "seed {seed}: {}", shown(&got.stderr));
-            let back = asked(&[&["pack"], &words[..]].concat(), &got.stdout);
+            let back = given(&[&["pack"], &words[..]].concat(), &got.stdout);
             assert_eq!(back.status.code(), Some(0), "seed {seed}: {}", shown(&back.stderr));
             assert_eq!(back.stdout, bundle, "seed {seed}: {}", shown(&got.stdout));
         }
@@ -308,9 +286,9 @@ fn an_edited_text_gives_the_same_bundle_and_the_same_text_again() {
 // A text, and what is told of it to people and to programs.
 #[track_caller]
 fn told(text: &[u8], told: &str, plain: &str) {
-    let got = asked(&["pack", "-"], text);
+    let got = given(&["pack", "-"], text);
     assert_eq!((got.status.code(), shown(&got.stdout), shown(&got.stderr)), (Some(1), "", told));
-    let got = asked(&["pack", "-", "--plain"], text);
+    let got = given(&["pack", "-", "--plain"], text);
     assert_eq!((got.status.code(), shown(&got.stdout), shown(&got.stderr)), (Some(1), "", plain));
 }
 
@@ -625,7 +603,7 @@ fn both_read_beside_the_standing_table() {
     table[..8].copy_from_slice(&[1, 0, 0, 0, 0, 1, 2, 1]);
     fs::write(&other, table).expect("a file");
     let beside = |command, table: &Path, input: &[u8]| {
-        asked(&[command, "-", "--standing", table.to_str().expect("a name")], input)
+        given(&[command, "-", "--standing", table.to_str().expect("a name")], input)
     };
     for (command, input) in [("unpack", bytes("w.bundle")), ("pack", W.as_bytes().to_vec())] {
         let got = beside(command, &none, &input);
@@ -645,13 +623,13 @@ fn both_read_beside_the_standing_table() {
 
 #[test]
 fn what_reading_refuses_is_not_unpacked() {
-    let got = asked(&["unpack", "-"], b"");
+    let got = given(&["unpack", "-"], b"");
     let told = "refused 10: the bundle is under 8 bytes\n";
     assert_eq!((got.status.code(), shown(&got.stdout), shown(&got.stderr)), (Some(1), "", told));
-    let got = asked(&["unpack", "-", "--plain"], &bytes("w.bundle")[1..]);
+    let got = given(&["unpack", "-", "--plain"], &bytes("w.bundle")[1..]);
     assert_eq!((got.status.code(), shown(&got.stdout), shown(&got.stderr)), (Some(1), "", "result 11 0 0\n"));
     // A text that was not packed yet.
-    assert_eq!(asked(&["unpack", "-"], W.as_bytes()).status.code(), Some(1));
+    assert_eq!(given(&["unpack", "-"], W.as_bytes()).status.code(), Some(1));
 }
 
 #[test]
@@ -665,15 +643,15 @@ fn wrong_words_are_told() {
         (&["unpakc", "-"], "draw, undraw, unpack, pack"),
     ];
     for (words, what) in mistakes {
-        let got = asked(words, b"");
+        let got = given(words, b"");
         assert_eq!((got.status.code(), shown(&got.stdout)), (Some(2), ""));
         assert!(shown(&got.stderr).contains(what), "{}", shown(&got.stderr));
     }
-    let got = asked(&["pack", "-"], "#".repeat((1 << 20) + 1).as_bytes());
+    let got = given(&["pack", "-"], "#".repeat((1 << 20) + 1).as_bytes());
     let most = "a text without comments and blanks of its own has at most 173936";
     let what = format!("macaroosh: standard input is over 1048576 bytes; {most}\n");
     assert_eq!((got.status.code(), shown(&got.stderr)), (Some(2), &*what));
-    let help = asked(&["--help"], b"").stdout;
+    let help = given(&["--help"], b"").stdout;
     assert!(["  macaroosh unpack FILE ", "  macaroosh pack TEXT "].iter().all(|line| shown(&help).contains(line)));
 }
 
@@ -727,13 +705,13 @@ fn no_text_makes_it_stumble() {
             let sound = unpacked(&bundle(dice)).into_bytes();
             damaged(dice, sound)
         };
-        let got = asked(&["pack", "-"], &text);
+        let got = given(&["pack", "-"], &text);
         let (status, told) = (got.status.code(), shown(&got.stderr));
         match status {
             Some(0) => assert_eq!(packed(&unpacked(&got.stdout)), got.stdout, "seed {seed}"),
             Some(1) => {
                 assert!(got.stdout.is_empty() && (told.starts_with("line ") || told.starts_with("refused ")), "{told}");
-                let plain = asked(&["pack", "-", "--plain"], &text);
+                let plain = given(&["pack", "-", "--plain"], &text);
                 assert_eq!(plain.status.code(), status, "seed {seed}");
                 let numbers = shown(&plain.stderr);
                 let kind = if told.starts_with("line ") { "mistake " } else { "result " };
