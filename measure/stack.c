@@ -1,6 +1,6 @@
 /* The deepest stack of each exported call, its return address included: each is called on a painted stack of its own, on
- * schedule W in each form and for each form asked for, or the echo table and its drawing, and the lowest byte that lost its
- * paint is looked up. Prints 'NAME BYTES'. */
+ * schedule W in each form and for each form asked for, or the echo table and its drawing, or W's log, and the lowest byte that
+ * lost its paint is looked up. Prints 'NAME BYTES'. */
 #define _XOPEN_SOURCE 600
 #include "macaroosh.h"
 
@@ -30,6 +30,14 @@ static const uint8_t forms[3][31] = {
     },
 };
 
+static const uint8_t without_steps[] = {0x01, 0x01, 0x01, 0x00, 0x00, 0x03, 0x00, 0x04, 0x01, 0x01, 0x00};
+static const char service_log[] =
+    "board 0 rule 3\n"
+    "board 1 rule 3\n"
+    "board 2 rule 3 type 0 from 0\n"
+    "board 2 rule 4 type 0 from 3\n"
+    "board 2 rule 5 type 0 from 1\n";
+
 static uint8_t stack[1 << 16], out[31], text[MACAROOSH_MOST_DRAWING], table[MACAROOSH_MOST_TABLE];
 static size_t text_length;
 static uint64_t words[MACAROOSH_MOST_WORDS];
@@ -50,6 +58,10 @@ static void translate_to(void) { answer = macaroosh_translate_to(w, 31, echo, si
 static void first_step(void) { answer = macaroosh_first_step(w, 31, echo, sizeof echo); }
 static void draw(void) { answer = macaroosh_draw(echo, sizeof echo, text, sizeof text); }
 static void undraw(void) { answer = macaroosh_undraw(text, text_length, table, sizeof table); }
+static void replay(void) {
+    answer = macaroosh_replay(without_steps, sizeof without_steps, echo, sizeof echo, (const uint8_t *)service_log,
+                              sizeof service_log - 1, out, sizeof out, words, MACAROOSH_MOST_WORDS);
+}
 
 /* How many bytes of the painted stack a call took. */
 static size_t taken(void (*call)(void)) {
@@ -85,5 +97,6 @@ int main(void) {
     measure("macaroosh_draw", draw);
     text_length = macaroosh_count(answer);
     measure("macaroosh_undraw", undraw);
+    measure("macaroosh_replay", replay);
     return 0;
 }

@@ -74,6 +74,19 @@ uint64_t macaroosh_draw(const uint8_t *table, size_t table_length, uint8_t *out,
  * wrong, or the text's length where the whole text could still go on. From 2^24 - 1 on it is given as that. */
 uint64_t macaroosh_undraw(const uint8_t *text, size_t text_length, uint8_t *out, size_t out_length);
 
+/* Makes a bundle of one without steps, in message form, and a service log, whose lines become its steps; writes it to `out`, which
+ * needs 4 bytes a line more than the bundle has (MACAROOSH_MOST_BYTES are always enough), and then runs it in `words` as
+ * macaroosh_run does. A line is one of
+ *   board P rule R
+ *   board P rule R type M from Q
+ * with single blanks, numbers from 0 to 254 in plain decimal without leading zeros, and one line feed at its end; an empty log has
+ * no lines. Whether a board, rule, type or sender exists is the run's to say. Answers packed: refusal, place, steps accepted. Any
+ * refusal but a step's (20 to 25) leaves both buffers as they were; after a step's, `out` has the whole bundle and `words` the
+ * configuration before that step. Bytes and words past those needed never change. */
+uint64_t macaroosh_replay(const uint8_t *bundle, size_t bundle_length, const uint8_t *standing, size_t standing_length,
+                          const uint8_t *log, size_t log_length, uint8_t *out, size_t out_length, uint64_t *words,
+                          size_t words_length);
+
 /* Refusals, in the order of the checks; 0 is none. The place counts from 0 what stands in brackets, and is 0 elsewhere.
  *   60 the text is no drawing [byte] (undraw)
  *   10 bundle under 8 bytes                        11 second distance plus 8 exceeds the bundle
@@ -83,7 +96,9 @@ uint64_t macaroosh_undraw(const uint8_t *text, size_t text_length, uint8_t *out,
  *    7 the rule forgets a sent type [rule]          8 the rule sends two new types [rule]
  *   12 n, t, f not admitted, or form over 2        13 the schedule's distances
  *   14 a start is not an initial state [board]     31 its own form is asked for, or none (translate_to)
- *   30 lent output too short (run, translate, translate_to)
+ *   52 the bundle has steps or is not in message form (replay)
+ *   51 a line 4,096 is there [line] (replay)       50 a line of another shape, or a number over 254 [line] (replay)
+ *   30 lent output too short (run, translate, translate_to, replay: either)
  *   20 board not below n - f [step]                21 rule not in the table [step]
  *   22 rule does not leave the state [step]        23 type or source out of range [step]
  *   24 message not in transit [step]               25 a threshold is not met [step]

@@ -1,4 +1,4 @@
-use macaroosh::{draw, first_step, run, run_into, translate, undraw};
+use macaroosh::{draw, first_step, replay, run, run_into, translate, undraw};
 use macaroosh::{Form, Message, Refusal, Sender, Step, ECHO, MOST_WORDS};
 
 fn main() -> Result<(), Refusal> {
@@ -27,6 +27,17 @@ fn main() -> Result<(), Refusal> {
     let plain = translate(&w, &ECHO, Form::Plain)?;
     let left = run(&plain, &ECHO)?.configuration;
     assert_eq!((left.received(2, 0), left.correct(2, 0)), (Some(3), None));
+
+    // W without its steps, and its log: the lines become the steps. A line that counts an echo twice is refused, and the error has
+    // the bundle and the run of the lines before it.
+    let empty = [1, 1, 1, 0, 0, 3, 0, 4, 1, 1, 0];
+    let heard = "board 2 rule 3 type 0 from 0\nboard 2 rule 4 type 0 from 3\n";
+    let log = format!("board 0 rule 3\nboard 1 rule 3\n{heard}board 2 rule 5 type 0 from 1\n");
+    let replayed = replay(&empty, &ECHO, &log)?;
+    assert_eq!((&replayed.bundle[..], replayed.run), (&w[..], run(&w, &ECHO)?));
+    let refused = replay(&empty, &ECHO, log.replace("from 1", "from 0")).unwrap_err();
+    assert_eq!(refused.refusal, Refusal { number: 24, place: 4 });
+    assert_eq!(refused.before.map(|made| (made.bundle, made.run.steps)), Some((twice.to_vec(), 4)));
 
     // The echo table as a drawing, and back.
     let drawing = draw(&ECHO)?;

@@ -2,18 +2,25 @@
 //!
 //! - `ratios` prints a line for each case, question and form: both times of one call, and their ratio.
 //! - `ratios write FOLDER` writes each case's bundle there and prints a line for each measurement: file and question.
-//! - `ratios one library|rust run|translate|first FILE COUNT` only asks the question so often, to be counted from outside.
+//! - `ratios one library|rust run|translate|first|replay FILE COUNT` only asks the question so often, to be counted from outside.
+//!
+//! A replay is that of the bundle's own log over the bundle without its steps; less a run of the bundle it is the log's reader.
 
 use judge::fast::Fast;
+use judge::logs::log_of;
+use judge::makers::bundles::without_steps;
 use judge::makers::cases::{cases, Case};
-use judge::model::Model;
-use judge::{Bench, Library};
+use judge::model::{read, Model};
+use judge::{Bench, Library, Replays};
 use macaroosh::calls::{Answer, First};
-use macaroosh::{ECHO, MOST_WORDS};
+use macaroosh::{Form, ECHO, MOST_WORDS};
 use std::process::ExitCode;
 use std::time::{Duration, Instant};
 
-const QUESTIONS: [&str; 3] = ["run", "translate", "first"];
+// Whoever answers every question.
+trait Side: Bench + Replays {}
+
+impl<S: Bench + Replays> Side for S {}
 
 fn main() -> ExitCode {
     let words: Vec<String> = std::env::args().skip(1).collect();
@@ -35,10 +42,10 @@ fn main() -> ExitCode {
 
 // What is asked of a case.
 fn questions(case: &Case) -> &'static [&'static str] {
-    if case.stuck {
-        &QUESTIONS[2..]
-    } else {
-        &QUESTIONS
+    match case.form {
+        _ if case.stuck => &["first"],
+        Form::Message => &["run", "translate", "first", "replay"],
+        Form::Counting | Form::Plain => &["run", "translate", "first"],
     }
 }
 
@@ -49,17 +56,23 @@ fn ratios() -> Result<(), String> {
     println!("{:<12} {:<9} {:<9} {:>12} {:>12} {:>7}", "case", "form", "question", "library ns", "rust ns", "ratio");
     for case in cases() {
         agree(&case)?;
+        let mut of_run = [0.0; 2];
         for question in questions(&case) {
-            let [library, rust] = times(&case.bundle, question);
-            let ratio = library / rust;
-            println!(
-                "{:<12} {:<9} {question:<9} {library:>12.1} {rust:>12.1} {ratio:>7.2}",
-                case.name,
-                case.form.name()
-            );
+            let both = times(&case.bundle, question)?;
+            tell(&case, question, both);
+            match *question {
+                "run" => of_run = both,
+                "replay" => tell(&case, "reader", [both[0] - of_run[0], both[1] - of_run[1]]),
+                _ => {}
+            }
         }
     }
     Ok(())
+}
+
+fn tell(case: &Case, question: &str, [library, rust]: [f64; 2]) {
+    let (name, form, ratio) = (case.name, case.form.name(), library / rust);
+    println!("{name:<12} {form:<9} {question:<9} {library:>12.1} {rust:>12.1} {ratio:>7.2}");
 }
 
 fn write(folder: &str) -> Result<(), String> {
@@ -74,56 +87,76 @@ fn write(folder: &str) -> Result<(), String> {
 }
 
 fn one(side: &str, question: &str, file: &str, count: &str) -> Result<(), String> {
-    let bench: &dyn Bench = match side {
+    let bench: &dyn Side = match side {
         "library" => &Library,
         "rust" => &Fast,
         _ => return Err(format!("there is no side '{side}'")),
     };
     let bundle = std::fs::read(file).map_err(|cause| format!("{file}: {cause}"))?;
     let count = count.parse().map_err(|_| format!("'{count}' is no count"))?;
-    Asked::new(bundle.len()).ask(bench, &bundle, question, count);
+    Asked::new(&bundle)?.ask(bench, &bundle, question, count);
     Ok(())
 }
 
 // Refuses a case on which the model, the library and the fast version differ.
 fn agree(case: &Case) -> Result<(), String> {
-    let answers = |bench: &dyn Bench| {
-        let mut asked = Asked::new(case.bundle.len());
-        QUESTIONS.iter().for_each(|question| asked.ask(bench, &case.bundle, question, 1));
-        asked
+    let answers = |bench: &dyn Side| -> Result<Asked, String> {
+        let mut asked = Asked::new(&case.bundle)?;
+        for question in ["run", "translate", "first", "replay"] {
+            asked.ask(bench, &case.bundle, question, 1);
+        }
+        Ok(asked)
     };
-    let told = answers(&Model);
+    let told = answers(&Model)?;
     if told.run.map(|answer| answer.refusal) != Some(0) || case.stuck != (told.first == Some(Ok(None))) {
         return Err(format!("{} in {} form is not as it should be", case.name, case.form.name()));
     }
-    if told != answers(&Library) || told != answers(&Fast) {
+    if told != answers(&Library)? || told != answers(&Fast)? {
         return Err(format!("the benches differ on {} in {} form", case.name, case.form.name()));
     }
     Ok(())
 }
 
-// Lent memory, and the last answer to each question.
+// What is replayed, lent memory, and the last answer to each question.
 #[derive(PartialEq)]
 struct Asked {
+    empty: Vec<u8>,
+    log: Vec<u8>,
     words: Vec<u64>,
     out: Vec<u8>,
+    made: Vec<u8>,
     run: Option<Answer>,
     translate: Option<Answer>,
     first: Option<First>,
+    replay: Option<Answer>,
 }
 
 impl Asked {
-    fn new(bytes: usize) -> Asked {
-        Asked { words: vec![0; MOST_WORDS], out: vec![0; bytes], run: None, translate: None, first: None }
+    fn new(bundle: &[u8]) -> Result<Asked, String> {
+        let steps = read(bundle, &ECHO).map_err(|refusal| refusal.to_string())?.steps;
+        Ok(Asked {
+            empty: without_steps(bundle),
+            log: log_of(&steps).into_bytes(),
+            words: vec![0; MOST_WORDS],
+            out: vec![0; bundle.len()],
+            made: vec![0; bundle.len()],
+            run: None,
+            translate: None,
+            first: None,
+            replay: None,
+        })
     }
 
     // The answers are kept, so that no call is left out.
-    fn ask(&mut self, bench: &dyn Bench, bundle: &[u8], question: &str, count: u32) {
+    fn ask(&mut self, bench: &dyn Side, bundle: &[u8], question: &str, count: u32) {
         for _ in 0..count {
             match question {
                 "run" => self.run = Some(bench.run(bundle, &ECHO, &mut self.words)),
                 "translate" => self.translate = Some(bench.translate(bundle, &ECHO, &mut self.out)),
-                _ => self.first = Some(bench.first_step(bundle, &ECHO)),
+                "first" => self.first = Some(bench.first_step(bundle, &ECHO)),
+                _ => {
+                    self.replay = Some(bench.replay(&self.empty, &ECHO, &self.log, &mut self.made, &mut self.words));
+                }
             }
         }
     }
@@ -131,9 +164,9 @@ impl Asked {
 
 // The least time of one call of the library and of the fast version, in nanoseconds: rounds of calls in turns, each as
 // many as fill some milliseconds.
-fn times(bundle: &[u8], question: &str) -> [f64; 2] {
-    const SIDES: [&dyn Bench; 2] = [&Library, &Fast];
-    let mut asked = Asked::new(bundle.len());
+fn times(bundle: &[u8], question: &str) -> Result<[f64; 2], String> {
+    const SIDES: [&dyn Side; 2] = [&Library, &Fast];
+    let mut asked = Asked::new(bundle)?;
     let mut timed = |bench, count| {
         let start = Instant::now();
         asked.ask(bench, bundle, question, count);
@@ -152,5 +185,5 @@ fn times(bundle: &[u8], question: &str) -> [f64; 2] {
             *least = least.min(timed(bench, count).as_nanos() as f64 / f64::from(count));
         }
     }
-    least
+    Ok(least)
 }

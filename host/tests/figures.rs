@@ -6,7 +6,7 @@ mod table;
 
 use judge::fast::Fast;
 use judge::model::{read, report, Model, Outline};
-use judge::{Bench, Library};
+use judge::{Bench, Library, Replays};
 use macaroosh::calls::{Answer, First};
 use macaroosh::{Form, Refusal, ECHO, MOST_BYTES};
 use reporter::reported;
@@ -130,6 +130,29 @@ fn first_steps_are_as_the_table_says() {
                         bundle.len()
                     );
                 }
+            }
+        }
+    }
+}
+
+#[test]
+fn logs_are_replayed_as_the_table_says() {
+    let all = cases();
+    let replayers: [(&str, &dyn Replays); 3] = [("model", &Model), ("library", &Library), ("fast", &Fast)];
+    for (case, log) in all.iter().flat_map(|case| case.logs.iter().map(move |log| (case, log))) {
+        // The words are those of the case that it makes.
+        let made = all.iter().find(|other| other.bundle == log.makes && !log.makes.is_empty());
+        let words = made.and_then(|made| made.words.clone()).unwrap_or_default();
+        assert_eq!(log.answer.left_a_configuration(), made.is_some(), "{}: {:?} makes no case", case.name, log.text);
+        for (who, replayer) in replayers {
+            for ((bundle, standing), (makes, _)) in case.beside(&case.bundle).into_iter().zip(case.beside(&log.makes)) {
+                let about = format!("{who}: {}, {} bytes, {:?}", case.name, bundle.len(), log.text);
+                let makes = if made.is_some() { makes } else { Vec::new() };
+                let (mut out, mut lent) = (vec![0xAA; 99], vec![u64::MAX; 12]);
+                let answer = replayer.replay(&bundle, standing, log.text.as_bytes(), &mut out, &mut lent);
+                assert_eq!(answer, log.answer, "{about}");
+                assert_eq!(out, [&makes[..], &vec![0xAA; 99 - makes.len()]].concat(), "{about}");
+                assert_eq!(lent, [&words[..], &vec![u64::MAX; 12 - words.len()]].concat(), "{about}");
             }
         }
     }

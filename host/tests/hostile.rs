@@ -2,7 +2,7 @@
 //! may not be written, streams, links and signals in the middle of a write, names that write to a terminal, damaged inputs.
 
 use judge::dice::{each_seed, seeds, Dice};
-use judge::makers::{bundles, sketches};
+use judge::makers::{bundles, logs, sketches};
 use std::ffi::{CStr, OsStr, OsString};
 use std::fs::{self, File, OpenOptions, Permissions};
 use std::io::Write;
@@ -612,7 +612,7 @@ fn a_refused_input_leaves_the_file_unless_it_is_asked_for() {
     assert_eq!((shown.lines().count(), &*file), (9, "as it was"));
     assert_eq!(refused(&["run", "--plain", "--partial"]), (String::new(), LEFT.to_string()));
     assert_eq!(refused(&["trace", "--partial"]), (String::new(), shown));
-    for command in ["first", "translate", "draw", "undraw"] {
+    for command in ["first", "translate", "draw", "undraw", "log"] {
         let all = [OsStr::new(command), OsStr::new("x"), OsStr::new("--partial")];
         mistake(&asked(&all), "--partial is for run and trace alone");
     }
@@ -726,18 +726,26 @@ fn bytes_are_not_written_to_a_terminal() {
         let got = asked(first, &[path, Path::new("-o"), &out]);
         assert_eq!(got.status.code(), Some(0), "{}", text(&got.stderr));
     }
-    for (first, path) in [(&["run"][..], &w), (&["draw"], &table), (&["draw", "--svg"], &table)] {
+    for (first, path) in [(&["run"][..], &w), (&["log"], &w), (&["draw"], &table), (&["draw", "--svg"], &table)] {
         assert_eq!(asked(first, &[path]).status.code(), Some(0), "{first:?}");
     }
 }
 
-// A bundle, a table or a drawing with one to four places flipped, cut or filled in.
+// A bundle, a table, a drawing or a log with one to four places flipped, cut or filled in.
 fn damaged(seed: u64) -> Vec<u8> {
     let dice = &mut Dice::new(seed);
-    let mut bytes = match seed % 3 {
+    let mut bytes = match seed % 4 {
         0 => bundles::any(dice),
         1 => sketches::table(dice),
-        _ => sketches::text(dice),
+        2 => sketches::text(dice),
+        _ => {
+            let replay = logs::any(dice);
+            if dice.once_in(2) {
+                replay.bundle
+            } else {
+                replay.log
+            }
+        }
     };
     for _ in 0..dice.between(1, 4) {
         let at = dice.below(bytes.len() + 1);
@@ -756,7 +764,7 @@ fn damaged(seed: u64) -> Vec<u8> {
 
 #[test]
 fn no_damaged_input_makes_any_command_stumble() {
-    const COMMANDS: [&[&str]; 11] = [
+    const COMMANDS: [&[&str]; 13] = [
         &["run"],
         &["run", "--plain"],
         &["trace"],
@@ -768,7 +776,12 @@ fn no_damaged_input_makes_any_command_stumble() {
         &["draw"],
         &["undraw"],
         &["undraw", "--plain"],
+        &["log"],
+        &["log", "--plain"],
     ];
+    // As a bundle and as a log.
+    const REPLAYS: [&[&str]; 4] =
+        [&["replay"], &["replay", "--trace", "--json"], &["replay", "--follow"], &["replay", "--follow", "--plain"]];
     let room = room("damaged");
     let statuses = each_seed(seeds("MACAROOSH_DAMAGED", 1_000), |seed| {
         let path = room.join(seed.to_string());
@@ -780,6 +793,14 @@ fn no_damaged_input_makes_any_command_stumble() {
             assert!(!told.contains("mistake") && !told.contains("panicked"), "seed {seed}, {command:?}: {told}");
             got.status.code() == Some(0)
         });
+        for (command, bundle) in REPLAYS.iter().flat_map(|command| [(command, true), (command, false)]) {
+            let (empty, log) = (example("w-empty.bundle"), example("w.log"));
+            let paths = if bundle { [&path, &log] } else { [&empty, &path] };
+            let got = asked(&words(command, &paths.map(PathBuf::as_path)));
+            let told = String::from_utf8_lossy(&got.stderr).into_owned();
+            assert!(matches!(got.status.code(), Some(0 | 1)), "seed {seed}, {command:?}: {}, {told}", got.status);
+            assert!(told.bytes().all(|byte| byte == b'\n' || byte >= b' '), "seed {seed}, {command:?}: {told}");
+        }
         // As a standing table too.
         let got = asked(&words(&["run", "--standing"], &[&path, &example("w.bundle")]));
         assert!(matches!(got.status.code(), Some(0 | 1)), "seed {seed}, as a standing table: {}", got.status);

@@ -530,7 +530,7 @@ fn wrong_words_are_told() {
     mistake(&["run"], "which bundle?");
     mistake(&["draw"], "which table?");
     mistake(&["undraw"], "which drawing?");
-    mistake(&["--plain"], "which command: run, trace, first, translate, draw, undraw, unpack or pack?");
+    mistake(&["--plain"], "which command: run, trace, first, translate, draw, undraw, unpack, pack, replay or log?");
     mistake(&["run", "x", "y"], "one bundle at a time: 'y' is one word too many");
     mistake(&["draw", "x", "y"], "one table at a time: 'y' is one word too many");
     mistake(&["undraw", "x", "y"], "one drawing at a time: 'y' is one word too many");

@@ -1,17 +1,19 @@
-//! The calls at the crate's root against the exact numbers of `macaroosh::calls`, on seeded bundles, tables and texts: number,
-//! place, count, words and bytes; their configurations against the model's report; steps against their records. `SEEDS=n` tries
-//! more than 3,000.
+//! The calls at the crate's root against the exact numbers of `macaroosh::calls`, on seeded bundles, logs, tables and texts:
+//! number, place, count, words and bytes; their configurations against the model's report; steps against their records. `SEEDS=n`
+//! tries more than 3,000.
 
 use judge::dice::{each_seed, seeds, Dice};
-use judge::makers::bundles::{any, case};
+use judge::makers::bundles::{any, case, without_steps};
+use judge::makers::logs::{self, Replay};
 use judge::makers::sketches;
 use judge::model::{read, report};
 use macaroosh::calls::{self, Answer};
 use macaroosh::parts::Parts;
 use macaroosh::terms::refusals::{self, Place};
-use macaroosh::{draw, draw_into, first_step, run, run_into, translate, translate_into, undraw, undraw_into};
-use macaroosh::{Configuration, Form, Message, Refusal, Refused, Run, Sender, Step};
-use macaroosh::{ECHO, MOST_DRAWING, MOST_TABLE, MOST_WORDS};
+use macaroosh::{draw, draw_into, first_step, replay, replay_into, run, run_into};
+use macaroosh::{translate, translate_into, undraw, undraw_into};
+use macaroosh::{Configuration, Form, Message, Refusal, Refused, Replayed, Run, Sender, Step};
+use macaroosh::{ECHO, MOST_BYTES, MOST_DRAWING, MOST_TABLE, MOST_WORDS};
 use std::collections::BTreeSet;
 use std::error::Error;
 use std::fmt::Debug;
@@ -136,6 +138,45 @@ fn bundles_are_answered_as_by_the_raw_calls() {
     }
 }
 
+// A replay by each call; the numbers of its refusals.
+fn replays_alike(bundle: &[u8], standing: &[u8], log: &[u8]) -> Vec<u8> {
+    let (mut out, mut words) = (vec![7; bundle.len() + MOST_BYTES], vec![9; MOST_WORDS]);
+    let answer = calls::replay(bundle, standing, log, &mut out, &mut words);
+    let lines = log.iter().filter(|&&byte| byte == b'\n').count();
+    let long = bundle.len() + 4 * lines.min(4_096);
+    let made = answer.left_a_configuration().then(|| {
+        let configuration = Configuration::of(&out[..long], standing, &words).expect("a configuration is left");
+        Replayed { bundle: out[..long].to_vec(), run: Run { steps: answer.count as usize, configuration } }
+    });
+    match replay(bundle, standing, log) {
+        Ok(replayed) => assert_eq!((answer.refusal, Some(replayed)), (0, made)),
+        Err(Refused { refusal, before }) => assert_eq!((Err(refusal), before), (said(answer), made)),
+    }
+    let wide = read(bundle, standing).map_or(7, |bundle| bundle.start().words().len());
+    let lengths = |exact: usize| [exact.saturating_sub(1), exact, exact + 3];
+    let both = lengths(long).into_iter().flat_map(|bytes| lengths(wide).map(|words| (bytes, words)));
+    let alike = |(bytes, words): (usize, usize)| {
+        let mut ours: (Vec<u8>, Vec<u64>) = ((0..bytes).map(byte).collect(), (0..words as u64).collect());
+        let mut theirs = ours.clone();
+        let answer = calls::replay(bundle, standing, log, &mut theirs.0, &mut theirs.1);
+        assert_eq!(replay_into(bundle, standing, log, &mut ours.0, &mut ours.1), said(answer));
+        assert_eq!(ours, theirs, "{bytes} bytes and {words} words lent");
+        answer.refusal
+    };
+    both.map(alike).collect()
+}
+
+#[test]
+fn logs_are_answered_as_by_the_raw_call() {
+    let asked = |seed| {
+        let Replay { bundle, standing, log, .. } = logs::any(&mut Dice::new(seed));
+        replays_alike(&bundle, &standing, &log)
+    };
+    let refusals: BTreeSet<u8> = each_seed(seeds("SEEDS", SEEDS), asked).concat().into_iter().collect();
+    let expected: BTreeSet<u8> = (0..=8).chain(10..=14).chain(20..=25).chain([30, 50, 51, 52]).collect();
+    assert_eq!(refusals, expected);
+}
+
 #[test]
 fn tables_and_texts_are_answered_as_by_the_raw_calls() {
     let asked = |seed| {
@@ -220,9 +261,10 @@ fn refusals_display_number_place_and_reason() {
             Place::Board => " at board 7",
             Place::Step => " at step 7",
             Place::Byte => " at byte 7",
+            Place::Line => " at line 7",
         };
         let expected = format!("refused {}{place}: {}", line.number, line.when);
-        let refused = Refused { refusal, before: None };
+        let refused: Refused = Refused { refusal, before: None };
         let errors: [Box<dyn Error>; 2] = [Box::new(refusal), Box::new(refused.clone())];
         for error in errors {
             assert_eq!(error.to_string(), expected);
@@ -250,6 +292,27 @@ fn refusals_of_the_calls_are_told() {
     let other_byte = "refused 60 at byte 3: the text is no drawing; up to there it could be one";
     assert_eq!(undraw("digit").map_err(told), Err(other_byte.to_string()));
     assert_eq!(run(&[], &ECHO), Err(Refused { refusal: Refusal { number: 10, place: 0 }, before: None }));
+    let shape = replay(&without_steps(W), &ECHO, "board 0 rule 3\nboard 00 rule 3\n").expect_err("a leading zero");
+    assert_eq!(shape.to_string(), "refused 50 at line 1: the line has another shape, or a number over 254");
+    assert_eq!(shape.before, None);
+    assert_eq!(replay(W, &ECHO, "").map_err(|refused| refused.refusal.number), Err(52));
+}
+
+#[test]
+fn a_log_makes_a_bundle_and_its_run() {
+    let log = include_str!("../../examples/w.log");
+    let replayed = replay(&without_steps(W), &ECHO, log).expect("W");
+    assert_eq!((&replayed.bundle[..], &replayed.run), (&W[..], &run(W, &ECHO).expect("W")));
+    // The whole bundle, and the run before the line that counts an echo twice.
+    let refused = replay(&without_steps(W), &ECHO, log.replace("from 1", "from 0")).expect_err("an echo counts once");
+    let before = refused.before.expect("steps were looked at");
+    assert_eq!(refused.refusal, Refusal { number: 24, place: 4 });
+    assert_eq!((before.bundle.len(), before.run.steps, before.run.configuration.state(2)), (31, 4, Some(2)));
+    assert_eq!(run(&before.bundle, &ECHO).expect_err("the same").before, Some(before.run));
+    // With lent memory nothing is allocated.
+    let (mut out, mut words) = ([0; 31], [0; 7]);
+    assert_eq!(replay_into(&without_steps(W), &ECHO, log, &mut out, &mut words), Ok(5));
+    assert_eq!((out, words), (*W, [2, 2, 3, 0, 0, 0b1011, 0b111]));
 }
 
 #[test]

@@ -1,6 +1,6 @@
 /* The header from C: schedule W is run in each form, translated there and back and to each form, and asked for its first step,
- * as is a run that is quiet; the echo table is drawn and read back; refusals leave lent memory alone. The last line is
- * 'N passed, M failed'. */
+ * as is a run that is quiet; the echo table is drawn and read back; W's log is replayed; refusals leave lent memory alone. The
+ * last line is 'N passed, M failed'. */
 #include "macaroosh.h"
 
 #include <stdio.h>
@@ -50,6 +50,15 @@ static const char drawing[] =
     "s2 -> s3 [label=\"1 -1 0\"];\n"
     "s3 -> s3 [label=\"0 0 0\"];\n"
     "}\n";
+
+/* W without its steps, and its log. */
+static const uint8_t without_steps[] = {0x01, 0x01, 0x01, 0x00, 0x00, 0x03, 0x00, 0x04, 0x01, 0x01, 0x00};
+static const char service_log[] =
+    "board 0 rule 3\n"
+    "board 1 rule 3\n"
+    "board 2 rule 3 type 0 from 0\n"
+    "board 2 rule 4 type 0 from 3\n"
+    "board 2 rule 5 type 0 from 1\n";
 
 static int passed, failed;
 
@@ -179,6 +188,61 @@ static void drawings(void) {
           memcmp(table, echo, sizeof echo) == 0 && all(table + sizeof echo, sizeof table - sizeof echo, 0xAA));
 }
 
+/* Lent to replays: as many bytes as W has and a few words, with more behind each. */
+static uint8_t made[sizeof w + 4];
+static uint64_t left[9];
+
+static void lend(void) {
+    size_t i;
+    memset(made, 0xAA, sizeof made);
+    for (i = 0; i < 9; i++) left[i] = 99;
+}
+
+/* Whether nothing of what was lent has changed. */
+static int untouched(void) {
+    size_t i;
+    for (i = 0; i < 9; i++) {
+        if (left[i] != 99) return 0;
+    }
+    return all(made, sizeof made, 0xAA);
+}
+
+/* A log over W without its steps, with so many bytes and words. */
+static uint64_t replay(const char *log, size_t length, size_t out_length, size_t words_length) {
+    return macaroosh_replay(without_steps, sizeof without_steps, echo, sizeof echo, (const uint8_t *)log, length, made, out_length,
+                            left, words_length);
+}
+
+static void logs(void) {
+    static const uint64_t w_words[] = {2, 2, 3, 0, 0, 11, 7, 99, 99}, twice_words[] = {2, 2, 2, 0, 0, 9, 7, 99, 99};
+    static const uint64_t start_words[] = {1, 1, 1, 0, 0, 0, 0, 99, 99};
+    const size_t length = sizeof service_log - 1;
+    char log[sizeof service_log];
+    lend();
+    check("30 bytes are too few for a replay", answers(replay(service_log, length, 30, 7), 30, 0, 0));
+    check("six words are too few for it", answers(replay(service_log, length, sizeof made, 6), 30, 0, 0));
+    check("the last line has no line feed", answers(replay(service_log, length - 1, sizeof made, 9), 50, 4, 0));
+    check("the second line ends too early", answers(replay(service_log, 20, sizeof made, 9), 50, 1, 0));
+    memcpy(log, service_log, sizeof log);
+    log[20] = '0';
+    check("a line is of another shape", answers(replay(log, length, sizeof made, 9), 50, 1, 0));
+    check("W has steps", answers(macaroosh_replay(w, sizeof w, echo, sizeof echo, NULL, 0, made, sizeof made, left, 9), 52, 0, 0));
+    check("bytes and words stay", untouched());
+    check("W's log is replayed", answers(replay(service_log, length, sizeof made, 9), 0, 0, 5));
+    check("to W, and no byte past it", memcmp(made, w, sizeof w) == 0 && all(made + sizeof w, sizeof made - sizeof w, 0xAA));
+    check("with W's words, and none past them", memcmp(left, w_words, sizeof left) == 0);
+    lend();
+    memcpy(log, service_log, sizeof log);
+    log[length - 2] = '0';
+    check("a log with an echo twice", answers(replay(log, length, sizeof made, 9), 24, 4, 4));
+    check("makes the whole bundle", memcmp(made, w, 22) == 0 && made[22] == 0 && memcmp(made + 23, w + 23, 8) == 0);
+    check("and leaves the words after four steps", memcmp(left, twice_words, sizeof left) == 0);
+    lend();
+    check("a log of nothing", answers(replay(NULL, 0, sizeof without_steps, 7), 0, 0, 0));
+    check("makes the same bundle", memcmp(made, without_steps, sizeof without_steps) == 0 && made[sizeof without_steps] == 0xAA);
+    check("and leaves the starts", memcmp(left, start_words, sizeof left) == 0);
+}
+
 /* NULL where the length is 0: no bundle, no standing table, nothing lent. */
 static void nothing_lent(void) {
     uint64_t words[7] = {9, 9, 9, 9, 9, 9, 9};
@@ -193,6 +257,9 @@ static void nothing_lent(void) {
     check("nothing to draw", answers(macaroosh_draw(NULL, 0, out, sizeof out), 1, 0, 0));
     check("nowhere to draw", answers(macaroosh_draw(echo, sizeof echo, NULL, 0), 61, 0, 0));
     check("nothing drawn", answers(macaroosh_undraw(NULL, 0, out, sizeof out), 60, 0, 0));
+    check("nothing to replay over", answers(macaroosh_replay(NULL, 0, NULL, 0, NULL, 0, out, sizeof out, words, 7), 10, 0, 0));
+    check("nowhere to replay",
+          answers(macaroosh_replay(without_steps, sizeof without_steps, echo, sizeof echo, NULL, 0, NULL, 0, NULL, 0), 30, 0, 0));
     check("nowhere for the table", answers(macaroosh_undraw((const uint8_t *)drawing, sizeof drawing - 1, NULL, 0), 61, 0, 0));
 }
 
@@ -224,6 +291,7 @@ int main(void) {
     forms();
     first_steps();
     drawings();
+    logs();
     refusals();
     nothing_lent();
     printf("%d passed, %d failed\n", passed, failed);

@@ -90,14 +90,14 @@ fn front(b: &[u8]) -> usize
 }
 
 // ---- the trailer
-fn step_distance(b: &[u8]) -> usize
+pub fn step_distance(b: &[u8]) -> usize
     requires { ⌜ trailerBytes ≤ length (now b) ⌝ }
     ensures { λ r. ⌜ (r ≡ stepDistance (now (b .entry))) × (r < 65536) ⌝ }
 {
     fault::trailer_u16(b, 0)
 }
 
-fn start_distance(b: &[u8]) -> usize
+pub fn start_distance(b: &[u8]) -> usize
     requires { ⌜ trailerBytes ≤ length (now b) ⌝ }
     ensures { λ r. ⌜ (r ≡ startDistance (now (b .entry))) × (r < 65536) ⌝ }
 {

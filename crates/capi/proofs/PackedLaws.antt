@@ -19,6 +19,8 @@ use Rattle.drawing.proofs.BoundLaws.{draw-within, undraw-within}
 use Rattle.first_step.specs.declared.First.{First}
 use Rattle.first_step.specs.Entry.{firstAnswer}
 use Rattle.first_step.proofs.BoundLaws.{FirstWithin, first-answer-within}
+use Rattle.replay.specs.Entry.{replayAnswer}
+use Rattle.replay.proofs.BoundLaws.{ReplayWithin, replay-within}
 use Rattle.capi.specs.Packed.{packed, capped, answerIn, Fits, packedFirst, firstIn, FirstFits, NothingLost}
 
 -- ---- read back
@@ -80,6 +82,9 @@ undraw-whole : (t : List ℕ) (lent : ℕ) → 64 + length t < 2 ^ 24 → capped
 unfolding capped _if_else_
 undraw-whole t lent l = let W = undraw-within t lent in rw (lt-ltb (undrawAnswer t lent .place) (2 ^ 24) (omega (arith, W .place)))
 
+replay-fits : (b standing log : List ℕ) (bytes words : ℕ) → Fits (replayAnswer b standing log bytes words)
+replay-fits b standing log bytes words = let W = replay-within b standing log bytes words in record { refusal = omega (arith, W .refusal); place = omega (arith, W .place); count = omega (arith, W .count) }
+
 within-first : (f : First) → FirstWithin f → FirstFits f
 within-first (First.Refused k p) (a, b, c) = (a, omega arith, omega arith)
 within-first First.Nothing h = tt
@@ -89,7 +94,7 @@ first-fits : (b standing : List ℕ) → FirstFits (firstAnswer b standing)
 first-fits b standing = within-first (firstAnswer b standing) (first-answer-within b standing)
 
 pub nothing-lost : NothingLost
-nothing-lost = record { answer-back = answer-back; first-back = first-back; run-fits = run-fits; translate-fits = translate-fits; draw-fits = draw-fits; undraw-fits = undraw-fits; undraw-whole = undraw-whole; first-fits = first-fits }
+nothing-lost = record { answer-back = answer-back; first-back = first-back; run-fits = run-fits; translate-fits = translate-fits; draw-fits = draw-fits; undraw-fits = undraw-fits; undraw-whole = undraw-whole; replay-fits = replay-fits; first-fits = first-fits }
 
 -- ---- the code, from what it has in hand
 pub packed-by : {x : ℕ} {a a′ : Answer} → a ≡ a′ → x ≡ packed a → x ≡ packed a′
@@ -100,6 +105,9 @@ run-fits-by b standing lent e = subst⁻¹ Fits e (run-fits b standing lent)
 
 pub translate-fits-by : {a : Answer} (b standing : List ℕ) (k lent : ℕ) → a ≡ translateToAnswer b standing k lent → Fits a
 translate-fits-by b standing k lent e = subst⁻¹ Fits e (translate-fits b standing k lent)
+
+pub replay-fits-by : {a : Answer} (b standing log : List ℕ) (bytes words : ℕ) → a ≡ replayAnswer b standing log bytes words → Fits a
+replay-fits-by b standing log bytes words e = subst⁻¹ Fits e (replay-fits b standing log bytes words)
 
 pub draw-fits-by : {a : Answer} (s : List ℕ) (lent : ℕ) → a ≡ drawAnswer s lent → Fits a
 draw-fits-by s lent e = subst⁻¹ Fits e (draw-fits s lent)

@@ -13,6 +13,7 @@ use Rattle.translate.specs.Entry.{translateToAnswer}
 use Rattle.drawing.specs.Entry.{drawAnswer, undrawAnswer}
 use Rattle.first_step.specs.declared.First.{First}
 use Rattle.first_step.specs.Entry.{firstAnswer}
+use Rattle.replay.specs.Entry.{replayAnswer}
 
 -- ---- an answer: the refusal in bits 0 to 7, the place in bits 8 to 31, the count in bits 32 to 63
 abbrev pub packed : Answer → ℕ
@@ -62,4 +63,5 @@ pub record NothingLost : Type 0 where
   -- a text under 2^24 bytes has no place that is capped
   pub undraw-fits : (t : List ℕ) (lent : ℕ) → Fits (capped (undrawAnswer t lent))
   pub undraw-whole : (t : List ℕ) (lent : ℕ) → 64 + length t < 2 ^ 24 → capped (undrawAnswer t lent) ≡ undrawAnswer t lent
+  pub replay-fits : (b standing log : List ℕ) (bytes words : ℕ) → Fits (replayAnswer b standing log bytes words)
   pub first-fits : (b standing : List ℕ) → FirstFits (firstAnswer b standing)

@@ -7,6 +7,7 @@ ghost use Rattle.engine.specs.Entry.{runAnswer, runWords};
 ghost use Rattle.translate.specs.Entry.{translateAnswer, translateBytes, translateToAnswer, translateToBytes};
 ghost use Rattle.drawing.specs.Entry.{drawAnswer, drawBytes, undrawAnswer, undrawBytes};
 ghost use Rattle.first_step.specs.Entry.{firstAnswer};
+ghost use Rattle.replay.specs.Entry.{replayAnswer, replayBytes, replayWords};
 ghost use Rattle.capi.specs.Packed.{packed, capped, Fits, packedFirst, FirstFits};
 use fault::Answer;
 use first_step::First;
@@ -71,6 +72,22 @@ pub extern "C" fn macaroosh_first_step<'a>(bundle: &'a [u8], standing: &'a [u8])
     ensures { λ r. ⌜ r ≡ packedFirst (firstAnswer (now (bundle .entry)) (now (standing .entry))) ⌝ }
 {
     pack_first(first_step::first_step(bundle, standing))
+}
+
+// Writes the bundle that a log makes of one without steps, and runs it in the lent words: refusal, place, steps accepted.
+#[no_mangle]
+pub extern "C" fn macaroosh_replay<'a>(
+    bundle: &'a [u8],
+    standing: &'a [u8],
+    log: &[u8],
+    out: &mut [u8],
+    words: &mut [u64],
+) -> u64
+    ensures { λ r. ⌜ r ≡ packed (replayAnswer (now (bundle .entry)) (now (standing .entry)) (now (log .entry)) (length (now (out .entry))) (length (now (words .entry)))) ⌝ }
+    ensures { λ r. ⌜ now (out .exit) ≡ replayBytes (now (bundle .entry)) (now (standing .entry)) (now (log .entry)) (now (out .entry)) (length (now (words .entry))) ⌝ }
+    ensures { λ r. ⌜ now (words .exit) ≡ replayWords (now (bundle .entry)) (now (standing .entry)) (now (log .entry)) (length (now (out .entry))) (now (words .entry)) ⌝ }
+{
+    pack(replay::replay(bundle, standing, log, out, words))
 }
 
 // A text may have places that take more than 24 bits.

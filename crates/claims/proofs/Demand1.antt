@@ -92,14 +92,14 @@ module _ (b standing lent : List ℕ) where
     rest = drop (roomIn b standing) lent
 
     -- what a refusal is of
-    number : (r .refusal ≡ 0 → ⊥) → OfStep (r .refusal)
-    number n = subst OfStep (sym (M .runs .number n)) (of-step _ _ _ _ (λ e. n (M .runs .number n ∙ e)))
+    pub ran-number : (r .refusal ≡ 0 → ⊥) → OfStep (r .refusal)
+    ran-number n = subst OfStep (sym (M .runs .number n)) (of-step _ _ _ _ (λ e. n (M .runs .number n ∙ e)))
 
     ran : RunOf b standing lent (ranAnswer r) (r .left ++ rest)
     unfolding ranAnswer _if_else_
     ran = record {
-      unchanged = λ n o. absurd (o (number n));
-      none-counted = λ n o. absurd (o (number n));
+      unchanged = λ n o. absurd (o (ran-number n));
+      none-counted = λ n o. absurd (o (ran-number n));
       step-counted = λ o. sym (answer-place r refl (refused-by o));
       step-left = λ o. ap (λ (w : List ℕ). w ++ rest) (M .runs .left ∙ ap (λ (i : ℕ). afterIn b standing i) (sym (answer-place r refl (refused-by o))));
       all-place = λ y. rw (eq-eqb (r .refusal) 0 y) refl;

@@ -36,11 +36,12 @@ use Rattle.words.specs.Words.{fromCorrect, fromFaulty, correctIn, faultyIn, sen
 use Rattle.engine.specs.Design.{sizesIn, designIn}
 use Rattle.engine.specs.Entry.{scheduleOf, ranWith, ranOf, ranAnswer, runAnswer, startIn}
 use Rattle.engine.proofs.BoundLaws.{ran-within}
+use Rattle.engine.proofs.RecastLaws.{Recast, same-n, same-t, same-f, new-form, same-table, same-start-bytes, new-steps, same-reading}
 use Rattle.translate.specs.Written.{rewritten, beginOf, translationWith}
 use Rattle.translate.specs.Entry.{translationOf, noOther, wrote, translateToAnswer, translateToBytes, usual, translateAnswer}
 use Rattle.translate.proofs.ReadLaws.{kept, begins}
 use Rattle.translate.proofs.WriteLaws.{moved-long, rewritten-long}
-use Rattle.translate.proofs.RewrittenLaws.{same-n, same-t, same-f, new-form, same-table, same-start-bytes, new-steps, same-reading, rewritten-again, rewritten-own}
+use Rattle.translate.proofs.RewrittenLaws.{recast, rewritten-again, rewritten-own}
 use Rattle.translate.proofs.EntryLaws.{other-known, other-made, done-refused, enter-refused, enter-same, enter-short, enter-long}
 use Rattle.paper.specs.Order.{Found, none, found, first}
 use Rattle.first_step.specs.Entry.{answerOf, afterRun, firstAnswer}
@@ -165,28 +166,31 @@ module _ (b standing : List ℕ) (S : Runs b standing) where
     many : length (new l) ≡ length ss
     many = moved-long level l d begin ss
 
+    recast-c : Recast b (new l) k c
+    recast-c = recast t b R (new l) k many
+
     same-design : designIn c standing ≡ d
-    same-design = λ i. design (same-n t b R (new l) k many i) (same-t t b R (new l) k many i) (same-f t b R (new l) k many i) (same-table t b R (new l) k many standing i)
+    same-design = λ i. design (same-n t b R recast-c i) (same-t t b R recast-c i) (same-f t b R recast-c i) (same-table t b R recast-c standing i)
 
     abbrev form-c : formOf c ≡ k
-    form-c = new-form t b R (new l) k many
+    form-c = new-form t b R recast-c
 
     abbrev level-c : levelOf (formOf c) ≡ l
     level-c = ap levelOf form-c
 
     -- where the translation begins, and its words after i steps
     begins-c : (i : ℕ) → beginOf (sizesIn c standing) c i ≡ begin i
-    begins-c i = λ x. start (typesOf (same-table t b R (new l) k many standing x)) (wide i) (same-start-bytes t b R (new l) k many x)
+    begins-c i = λ x. start (typesOf (same-table t b R recast-c standing x)) (wide i) (same-start-bytes t b R recast-c x)
 
     begin-c : startIn (sizesIn c standing) c ≡ begin l
-    begin-c = λ i. start (typesOf (same-table t b R (new l) k many standing i)) (wide (level-c i)) (same-start-bytes t b R (new l) k many i)
+    begin-c = λ i. start (typesOf (same-table t b R recast-c standing i)) (wide (level-c i)) (same-start-bytes t b R recast-c i)
 
     ran-c : ranOf c standing ≡ run l d (begin l) (new l)
     unfolding ranWith
-    ran-c = λ i. run (level-c i) (same-design i) (begin-c i) (new-steps t b R (new l) k many i)
+    ran-c = λ i. run (level-c i) (same-design i) (begin-c i) (new-steps t b R recast-c i)
 
     after-c : (n : ℕ) → afterIn c standing n ≡ after l d (begin l) (new l) n
-    after-c n = λ i. after (level-c i) (same-design i) (begin-c i) (new-steps t b R (new l) k many i) n
+    after-c n = λ i. after (level-c i) (same-design i) (begin-c i) (new-steps t b R recast-c i) n
 
     -- the words that are left are those after all steps
     left-c : ranOf c standing .left ≡ after l d (begin l) (new l) (length ss)
@@ -194,7 +198,7 @@ module _ (b standing : List ℕ) (S : Runs b standing) where
 
     runs-c : k ≤ 2 → Runs c standing
     runs-c h = record {
-      read = ap (λ (v : Verdict). v .number) (same-reading t b R (new l) k many standing h refl) ∙ S .read;
+      read = ap (λ (v : Verdict). v .number) (same-reading t b R recast-c standing h refl) ∙ S .read;
       accepted = ap (λ (r : Ran). r .refusal) ran-c ∙ all .runs l;
     }
 
@@ -226,7 +230,7 @@ module _ (b standing : List ℕ) (S : Runs b standing) where
         let f = R .admitted .form in
         let o : l ≤ level = omega (arith, level-same k (omega arith), level-same (formOf b) f) in
         let p : translationOf c standing (formOf b) ≡ rewritten c (moved l level d begin (new l)) (formOf b) =
-        λ i. rewritten c (moved (level-c i) level (same-design i) (λ x. begins-c x i) (new-steps t b R (new l) k many i)) (formOf b) in
+        λ i. rewritten c (moved (level-c i) level (same-design i) (λ x. begins-c x i) (new-steps t b R recast-c i)) (formOf b) in
         p ∙ ap (λ (x : List Step). rewritten c x (formOf b)) (all .back l o) ∙ rewritten-again t b R (new l) k many ss (formOf b) refl ∙ rewritten-own t b R
 
     translated : noOther b k ≡ false → Translated b standing k (translationOf b standing k)
@@ -234,12 +238,12 @@ module _ (b standing : List ℕ) (S : Runs b standing) where
     translated o = record {
       answered = answered-c o;
       written = written-c o;
-      long = rewritten-long b (R .trailed) (R .parted) (new l) k many;
-      table = same-table t b R (new l) k many standing;
-      starts = same-start-bytes t b R (new l) k many;
-      n = same-n t b R (new l) k many;
-      t = same-t t b R (new l) k many;
-      f = same-f t b R (new l) k many;
+      long = rewritten-long b (R .parted) (R .trailed) (new l) k many;
+      table = same-table t b R recast-c standing;
+      starts = same-start-bytes t b R recast-c;
+      n = same-n t b R recast-c;
+      t = same-t t b R recast-c;
+      f = same-f t b R recast-c;
       form = form-c;
       runs = runs-c (other-known b k o);
       alike = alike-c;
@@ -297,8 +301,7 @@ module _ (b standing : List ℕ) (S : Runs b standing) where
   sizes-at : (k : ℕ) → k ≤ 2 → sizesIn (form k) standing ≡ sizes k
   sizes-at k h =
       let e : levelOf (formOf (form k)) ≡ k = level-c k ∙ level-same k h in
-      let l = levelOf k in
-      λ i. numbers (e i) (same-n t b R (new l) k (many k) i) (same-f t b R (new l) k (many k) i) (same-table t b R (new l) k (many k) standing i)
+      λ i. numbers (e i) (same-n t b R (recast-c k) i) (same-f t b R (recast-c k) i) (same-table t b R (recast-c k) standing i)
 
   abbrev Two : Type 0
   Two = columnOf 1 d .Coll

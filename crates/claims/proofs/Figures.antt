@@ -21,9 +21,16 @@ use Rattle.translate.specs.Written.{rewritten, translationWith}
 use Rattle.translate.specs.Entry.{noOther, wrote, translateToAnswer, translateToBytes, usual}
 use Rattle.paper.specs.Order.{orElse, seek, tries, first, possible}
 use Rattle.first_step.specs.Entry.{afterRun, firstAnswer}
-use Rattle.dot.specs.Numbers.{decimal, signed}
+use Rattle.decimal.specs.Numbers.{decimal, signed}
+use Rattle.decimal.specs.Digits.{isDigit, goesOn}
 use Rattle.dot.specs.Text.{isBlank, written, headText, joint, numbersText, labelText, stateText, ruleText, statesText, rulesText, tableText, drawingOf}
-use Rattle.dot.specs.Reading.{isDigit, canMinus, limit, grow, put, newState, newRule, nextState, take1, growing, whole, next, ended, onward, run as runText, reading}
+use Rattle.dot.specs.Reading.{canMinus, limit, grow, put, newState, newRule, nextState, take1, growing, whole, next, ended, onward, run as runText, reading}
+use Rattle.decimal.specs.Digits.{peeked, longest}
+use Rattle.log.specs.Line.{messageOf, lineOf, logOf}
+use Rattle.log.specs.Said.{begins, counted, numbered, ends, ended as feedEnded, hearing, saidBy}
+use Rattle.log.specs.Lines.{judged, faultFrom, taken, stepsFrom}
+use Rattle.replay.specs.Made.{raised, made}
+use Rattle.replay.specs.Entry.{notEmpty, noRoom, replayFault, replayAnswer, replayBytes, replayWords}
 use Rattle.drawing.specs.Entry.{trailerFor, tableOf, drawnFault, drawnTable, given, left, drawAnswer, drawBytes, undrawAnswer, undrawBytes}
 use Rattle.claims.specs.Figures.{Holds, Every, oneEnough, cases}
 
@@ -42,6 +49,7 @@ unfolding
     stateFault ruleFault recordsFault tableFault frontLength tableInUse startsOf stepsOf noTrailer outOfBundle notAdmitted stepsOff notInitial startFault scheduleFault
     faultWith size cellAt sentAt state cell sent hear tell start wide slot bump coll shown heard stepped malformed notInTransit notMet stepFault stepsIn kindOf runBy followAll tagOf tagBy lowSender lowest least metAt ranWith
     ranAnswer runAnswer runWords bytesOf rewritten coarser finer moved translationWith noOther wrote translateToAnswer translateToBytes usual orElse seek possible tries first afterRun firstAnswer
-    decimal signed isBlank written headText joint numbersText labelText stateText ruleText statesText rulesText tableText drawingOf isDigit canMinus limit grow put newState newRule nextState
+    decimal signed isBlank written headText joint numbersText labelText stateText ruleText statesText rulesText tableText drawingOf isDigit goesOn canMinus limit grow put newState newRule nextState
     take1 growing whole next ended onward runText reading trailerFor tableOf countsOutside drawnFault drawnTable given left drawAnswer drawBytes undrawAnswer undrawBytes
-figures = (refl, (refl, (refl, (refl, (refl, (refl, ((refl, refl), ((refl, refl), ((refl, refl), ((refl, refl), ((refl, refl), ((refl, refl), ((refl, refl), ((refl, refl), ((refl, refl), (refl, (refl, (refl, (refl, (refl, ((refl, refl), ((refl, refl), ((refl, refl), ((refl, refl), ((refl, refl), (refl, (refl, (refl, ((refl, refl), ((refl, refl), ((refl, refl), ((refl, refl), ((refl, refl), ((refl, refl), ((refl, refl), ((refl, refl), ((refl, refl), ((refl, refl), ((refl, refl), ((refl, refl), ((refl, refl), ((refl, refl), ((refl, refl), ((refl, refl), ((refl, refl), ((refl, refl), ((refl, refl), ((refl, refl), ((refl, refl), ((refl, refl), ((refl, refl), ((refl, refl), (refl, ((refl, refl), ((refl, refl), ((refl, refl), (refl, ((refl, refl), ((refl, refl), ((refl, refl), ((refl, refl), ((refl, refl), ((refl, refl), ((refl, refl), (refl, (refl, (refl, ((refl, refl), ((refl, refl), ((refl, refl), (one-enough-holds, ((refl, refl), ((refl, refl), (refl, (refl, ((refl, refl), ((refl, refl), ((refl, refl), ((refl, refl), ((refl, refl), ((refl, refl), ((refl, refl), ((refl, refl), ((refl, refl), ((refl, refl), ((refl, refl), ((refl, refl), ((refl, refl), ((refl, refl), ((refl, refl), ((refl, refl), ((refl, refl), (refl, (refl, (refl, tt)))))))))))))))))))))))))))))))))))))))))))))))))))))))))))))))))))))))))))))))))))))))))))))))
+    peeked longest messageOf lineOf logOf begins counted numbered ends feedEnded hearing saidBy judged faultFrom taken stepsFrom raised made notEmpty noRoom replayFault replayAnswer replayBytes replayWords
+figures = (refl, (refl, (refl, (refl, (refl, (refl, ((refl, refl), ((refl, refl), ((refl, refl), ((refl, refl), ((refl, refl), ((refl, refl), ((refl, refl), ((refl, refl), ((refl, refl), (refl, (refl, (refl, (refl, (refl, ((refl, refl), ((refl, refl), ((refl, refl), ((refl, refl), ((refl, refl), (refl, (refl, (refl, ((refl, refl), ((refl, refl), ((refl, refl), ((refl, refl), ((refl, refl), ((refl, refl), ((refl, refl), ((refl, refl), ((refl, refl), ((refl, refl), ((refl, refl), ((refl, refl), ((refl, refl), ((refl, refl), ((refl, refl), ((refl, refl), ((refl, refl), ((refl, refl), ((refl, refl), ((refl, refl), ((refl, refl), ((refl, refl), ((refl, refl), ((refl, refl), (refl, ((refl, refl), ((refl, refl), ((refl, refl), (refl, ((refl, refl), ((refl, refl), ((refl, refl), ((refl, refl), ((refl, refl), ((refl, refl), ((refl, refl), (refl, (refl, (refl, ((refl, refl), ((refl, refl), ((refl, refl), (one-enough-holds, ((refl, refl), ((refl, refl), (refl, (refl, ((refl, refl), ((refl, refl), ((refl, refl), ((refl, refl), ((refl, refl), ((refl, refl), ((refl, refl), ((refl, refl), ((refl, refl), ((refl, refl), ((refl, refl), ((refl, refl), ((refl, refl), ((refl, refl), ((refl, refl), ((refl, refl), ((refl, refl), (refl, (refl, (refl, ((refl, refl, refl), ((refl, refl, refl), ((refl, refl, refl), ((refl, refl, refl), ((refl, refl, refl), ((refl, refl, refl), ((refl, refl, refl), ((refl, refl, refl), ((refl, refl, refl), ((refl, refl, refl), ((refl, refl, refl), ((refl, refl, refl), ((refl, refl, refl), ((refl, refl, refl), ((refl, refl, refl), (refl, (refl, (refl, ((refl, refl, refl), ((refl, refl, refl), ((refl, refl, refl), ((refl, refl, refl), ((refl, refl, refl), tt))))))))))))))))))))))))))))))))))))))))))))))))))))))))))))))))))))))))))))))))))))))))))))))))))))))))))))))))))))))

@@ -14,3 +14,4 @@ pub mod DrawnTable
 pub mod Drawings
 pub mod LongestDrawing
 pub mod Maxima
+pub mod Replay

@@ -17,7 +17,7 @@ use Rattle.fault.specs.Bytes.{byteAt}
 use Rattle.fault.specs.Fault.{_if_else_}
 use Rattle.table.specs.Table.{statesOf, rulesOf, typesOf, factorOf, flagsOf, initialOf, sentOf, typeBytes, ruleBytes, ruleAt, mostTypes, stateBytes, endBytes}
 use Rattle.table.specs.Facts.{WellFormed}
-use Rattle.dot.specs.Numbers.{text, decimal, signed}
+use Rattle.decimal.specs.Numbers.{text, decimal, signed}
 use Rattle.dot.specs.Text.{Piece, char, written, chars, after, tight, aBlank, newLine, headText, joint, numbersText, labelText, stateText, ruleText, statesText, rulesText, endText, tableText, drawingOf}
 use Rattle.pen.proofs.LengthLaws.{chars-long, after-long, signed-long, end-long}
 

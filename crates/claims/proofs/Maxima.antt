@@ -14,7 +14,7 @@ use Rattle.bundle.specs.Refusals.{readFault, noTrailer, outOfBundle, notAdmitte
 use Rattle.bundle.proofs.BundleLaws.{read-by, read-short}
 use Rattle.paper.specs.Words.{size}
 use Rattle.paper.specs.Form.{wide}
-use Rattle.dot.specs.Numbers.{decimal, signed}
+use Rattle.decimal.specs.Numbers.{decimal, signed}
 use Rattle.dot.specs.Text.{written, headText, joint, numbersText, labelText, stateText, ruleText, statesText, rulesText, tableText, drawingOf}
 use Rattle.claims.specs.Demand1.{roomIn}
 use Rattle.claims.proofs.Demand1.{room-few}

@@ -11,12 +11,14 @@ one-answer = record {
   translate = λ κs a r r′ s s′ p q. (both (p .0) (q .0), both (p .1) (q .1));
   translate-to = λ κs a r r′ s s′ p q. (both (p .0) (q .0), both (p .1) (q .1));
   first-step = λ κs a r r′ s s′ p q. both p q;
+  replay = λ κs a r r′ s s′ p q. (both (p .0) (q .0), both (p .1 .0) (q .1 .0), both (p .1 .1) (q .1 .1));
   draw = λ κs a r r′ s s′ p q. (both (p .0) (q .0), both (p .1) (q .1));
   undraw = λ κs a r r′ s s′ p q. (both (p .0) (q .0), both (p .1) (q .1));
   c-run = λ κs a r r′ s s′ p q. (both (p .0) (q .0), both (p .1) (q .1));
   c-translate = λ κs a r r′ s s′ p q. (both (p .0) (q .0), both (p .1) (q .1));
   c-translate-to = λ κs a r r′ s s′ p q. (both (p .0) (q .0), both (p .1) (q .1));
   c-first-step = λ κs a r r′ s s′ p q. both p q;
+  c-replay = λ κs a r r′ s s′ p q. (both (p .0) (q .0), both (p .1 .0) (q .1 .0), both (p .1 .1) (q .1 .1));
   c-draw = λ κs a r r′ s s′ p q. (both (p .0) (q .0), both (p .1) (q .1));
   c-undraw = λ κs a r r′ s s′ p q. (both (p .0) (q .0), both (p .1) (q .1));
 }

@@ -12,7 +12,12 @@ use Rattle.engine.specs.Entry.{runAnswer, runWords}
 use Rattle.translate.specs.Entry.{translateAnswer, translateBytes, translateToAnswer, translateToBytes}
 use Rattle.first_step.specs.declared.First.{First}
 use Rattle.first_step.specs.Entry.{firstAnswer}
-use Rattle.dot.specs.Numbers.{text}
+use Rattle.decimal.specs.Numbers.{text, decimal}
+use Rattle.bundle.specs.Bundle.{stepsOf}
+use Rattle.schedule.specs.Records.{stepsIn}
+use Rattle.log.specs.Line.{logOf}
+use Rattle.log.specs.Lines.{faultFrom}
+use Rattle.replay.specs.Entry.{replayAnswer, replayBytes, replayWords}
 use Rattle.drawing.specs.Entry.{drawAnswer, drawBytes, undrawAnswer, undrawBytes}
 use Rattle.echo.specs.Echo.{echo, fiveSteps, W, WCounting, WPlain}
 use Rattle.claims.specs.NoEcho.{asking, oneEcho}
@@ -35,6 +40,10 @@ pub data Case : Type 0 where
   -- drawing a table answers refusal, place and bytes written, and leaves these bytes in as many lent ones; and so undrawing a text
   draws : List ℕ → ℕ → ℕ → ℕ → List ℕ → Case
   undraws : List ℕ → ℕ → ℕ → ℕ → List ℕ → Case
+  -- replaying a log over a bundle beside a standing table answers refusal, place and steps, and leaves these bytes and words in as many lent ones
+  replays : List ℕ → List ℕ → List ℕ → ℕ → ℕ → ℕ → List ℕ → List ℕ → Case
+  -- from line i on, with room for n more lines, a log is refused with this number and place
+  judges : ℕ → ℕ → List ℕ → ℕ → ℕ → Case
 
 abbrev pub Holds : Case → Type 0
 Holds (comesTo a b d n t z) = thresholdOf a b d n t ≡ z
@@ -51,6 +60,9 @@ Holds (draws s k p n bytes) =
     (drawAnswer s (length bytes) ≡ record { refusal = k; place = p; count = n }) × (drawBytes s (replicate (length bytes) 9) ≡ bytes)
 Holds (undraws t k p n bytes) =
     (undrawAnswer t (length bytes) ≡ record { refusal = k; place = p; count = n }) × (undrawBytes t (replicate (length bytes) 9) ≡ bytes)
+Holds (replays b standing log k p i bytes words) =
+    (replayAnswer b standing log (length bytes) (length words) ≡ record { refusal = k; place = p; count = i }) × (replayBytes b standing log (replicate (length bytes) 9) (length words) ≡ bytes) × (replayWords b standing log (length bytes) (replicate (length words) 9) ≡ words)
+Holds (judges n i log k p) = faultFrom n i log ≡ verdict k p
 
 abbrev pub Every : List Case → Type 0
 Every [] = Unit {0}
@@ -142,6 +154,25 @@ correctFirst = 0 ∷ 0 ∷ 1 ∷ 0 ∷ 0 ∷ 0 ∷ 0 ∷ 0 ∷ 0 ∷ 0 ∷ 0 ∷
 
 abbrev lowestOfCorrectFirst : List ℕ
 lowestOfCorrectFirst = 0 ∷ 2 ∷ 3 ∷ 0 ∷ 1 ∷ 0 ∷ 1 ∷ 1 ∷ 2 ∷ 1 ∷ 2 ∷ 3 ∷ 3 ∷ 4 ∷ 2 ∷ []
+
+-- W without its steps; a log of W's five lines with these senders; W's start with one step, and its words
+abbrev WEmpty : List ℕ
+WEmpty = schedule (1 ∷ 1 ∷ 1 ∷ []) [] 4 1 1
+
+abbrev WLog : ℕ → ℕ → ℕ → List ℕ
+WLog a b c =
+    text "board 0 rule 3\nboard 1 rule 3\nboard 2 rule 3 type 0 from " ++ (decimal a ++ (text "\nboard 2 rule 4 type 0 from " ++ (decimal b ++
+    (text "\nboard 2 rule 5 type 0 from " ++ (decimal c ++ text "\n")))))
+
+abbrev withStep : ℕ → ℕ → ℕ → ℕ → List ℕ
+withStep p r m q = schedule (1 ∷ 1 ∷ 1 ∷ []) (p ∷ r ∷ m ∷ q ∷ []) 4 1 1
+
+abbrev startWords : List ℕ
+startWords = 1 ∷ 1 ∷ 1 ∷ 0 ∷ 0 ∷ 0 ∷ 0 ∷ []
+
+-- a log that is refused with 50 at line p, and what was lent stays
+abbrev wrongLine : List ℕ → ℕ → Case
+wrongLine log p = replays WEmpty echo log 50 p 0 (replicate 40 9) (replicate 8 9)
 
 -- a text that leaves all drawings at p; a drawing that is refused with k at place p; and one byte lent that stays
 abbrev leaves : List ℕ → ℕ → Case
@@ -284,4 +315,36 @@ cases =
     -- board 0 has all of type 0, and by rule 3 lacks one of type 1: only faulty board 4 can send it
     firstOf (pair ++ pairIn 0 senders) echo (First.Step 0 3 1 4) ∷
     firstOf (pair ++ pairIn 1 tags) echo (First.Step 0 3 1 1) ∷
-    firstOf (pair ++ pairIn 2 untold) echo (First.Step 0 3 1 0) ∷ []
+    firstOf (pair ++ pairIn 2 untold) echo (First.Step 0 3 1 0) ∷
+    -- Q-6: W's log over W without its steps is W to the byte, and runs as W does; a byte and a word past what is needed stay
+    replays WEmpty echo (WLog 0 3 1) 0 0 5 (W ++ (9 ∷ [])) (2 ∷ 2 ∷ 3 ∷ 0 ∷ 0 ∷ 11 ∷ 7 ∷ 9 ∷ []) ∷
+    -- no log: a bundle without steps; and with a table in front
+    replays WEmpty echo [] 0 0 0 WEmpty (1 ∷ 1 ∷ 1 ∷ 0 ∷ 0 ∷ 0 ∷ 0 ∷ []) ∷
+    replays (echo ++ WEmpty) [] (WLog 0 3 1) 0 0 5 (echo ++ W) (2 ∷ 2 ∷ 3 ∷ 0 ∷ 0 ∷ 11 ∷ 7 ∷ []) ∷
+    -- a line that counts an echo twice (P5): the bundle is written, and the words are those before that step
+    replays WEmpty echo (WLog 0 3 0) 24 4 4 (fiveSteps 0 3 0 0) (2 ∷ 2 ∷ 2 ∷ 0 ∷ 0 ∷ 9 ∷ 7 ∷ []) ∷
+    -- numbers: 254 is only read, and running refuses the board; 255, 256, a leading zero and a sign are no number of a line
+    replays WEmpty echo (text "board 254 rule 3\n") 20 0 0 (withStep 254 3 255 255) startWords ∷
+    wrongLine (text "board 0 rule 255\n") 0 ∷
+    wrongLine (text "board 256 rule 3\n") 0 ∷
+    wrongLine (text "board 0 rule 3\nboard 1 rule 03\n") 1 ∷
+    wrongLine (text "board 0 rule 4 type 0 from -1\n") 0 ∷
+    -- shapes: no last line feed, a carriage return, an empty line, two blanks, a blank at the end, a message without its source
+    wrongLine (text "board 0 rule 3\nboard 1 rule 3") 1 ∷
+    wrongLine (text "board 0 rule 3\r\n") 0 ∷
+    wrongLine (text "board 0 rule 3\n\n") 1 ∷
+    wrongLine (text "board 0  rule 3\n") 0 ∷
+    wrongLine (text "board 0 rule 3 \n") 0 ∷
+    wrongLine (text "board 0 rule 3 type 0\n") 0 ∷
+    -- 51 at line 4,096, before that line is looked at; the line before is looked at, and 4,096 right lines are not refused
+    judges 1 4095 (text "board 0 rule 3\nx") 51 4096 ∷
+    judges 1 4095 (text "x") 50 4095 ∷
+    judges 1 4095 (text "board 0 rule 3\n") 0 0 ∷
+    -- 52 for W itself and for another form, before 50
+    replays W echo (text "x") 52 0 0 (replicate 31 9) (replicate 7 9) ∷
+    replays (scheduleIn 1 (1 ∷ 1 ∷ 1 ∷ []) [] 4 1 1) echo [] 52 0 0 (replicate 31 9) (replicate 10 9) ∷
+    -- 30 for a byte too few, and for a word too few: neither is written to
+    replays WEmpty echo (WLog 0 3 1) 30 0 0 (replicate 30 9) (replicate 7 9) ∷
+    replays WEmpty echo (WLog 0 3 1) 30 0 0 (replicate 31 9) (replicate 6 9) ∷
+    -- two types and unequal starts: the log of its schedule
+    replays (scheduleIn 0 (2 ∷ 0 ∷ 1 ∷ []) [] 5 4 2) pair (logOf (stepsIn (stepsOf (pairIn 0 senders)))) 0 0 16 (pairIn 0 senders) (3 ∷ 5 ∷ 6 ∷ 31 ∷ 14 ∷ 4 ∷ 24 ∷ 23 ∷ 0 ∷ 7 ∷ 6 ∷ []) ∷ []

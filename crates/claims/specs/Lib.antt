@@ -9,3 +9,4 @@ pub mod NoEcho
 pub mod OneAnswer
 pub mod Drawings
 pub mod Maxima
+pub mod Replay

@@ -9,12 +9,14 @@ use Rattle.engine.proofs.run.Reads as run
 use Rattle.translate.proofs.translate.Reads as translate
 use Rattle.translate.proofs.translate_to.Reads as translate-to
 use Rattle.first_step.proofs.first_step.Reads as first-step
+use Rattle.replay.proofs.replay.Reads as replay
 use Rattle.drawing.proofs.draw.Reads as draw
 use Rattle.drawing.proofs.undraw.Reads as undraw
 use Rattle.capi.proofs.macaroosh_run.Reads as c-run
 use Rattle.capi.proofs.macaroosh_translate.Reads as c-translate
 use Rattle.capi.proofs.macaroosh_translate_to.Reads as c-translate-to
 use Rattle.capi.proofs.macaroosh_first_step.Reads as c-first-step
+use Rattle.capi.proofs.macaroosh_replay.Reads as c-replay
 use Rattle.capi.proofs.macaroosh_draw.Reads as c-draw
 use Rattle.capi.proofs.macaroosh_undraw.Reads as c-undraw
 
@@ -30,6 +32,10 @@ Three = RefT (List ℕ) × (RefT (List ℕ) × (RefT (List ℕ) × Unit {0}))
 abbrev pub Asked : Type 0
 Asked = RefT (List ℕ) × (RefT (List ℕ) × (ℕ × (RefT (List ℕ) × Unit {0})))
 
+-- a bundle, a standing table and a log, with lent bytes and lent words
+abbrev pub Logged : Type 0
+Logged = RefT (List ℕ) × (RefT (List ℕ) × (RefT (List ℕ) × (RefT (List ℕ) × (RefT (List ℕ) × Unit {0}))))
+
 -- what was lent
 abbrev pub second : Two → List ℕ
 second s = now (s .1 .0)
@@ -39,6 +45,12 @@ third s = now (s .1 .1 .0)
 
 abbrev pub fourth : Asked → List ℕ
 fourth s = now (s .1 .1 .1 .0)
+
+abbrev pub bytesIn : Logged → List ℕ
+bytesIn s = now (s .1 .1 .1 .0)
+
+abbrev pub wordsIn : Logged → List ℕ
+wordsIn s = now (s .1 .1 .1 .1 .0)
 
 -- a contract of input a, answer r and what is left, s
 abbrev pub One : {A R : Type 0} → (A → R → Two → Type 0) → Type 0
@@ -53,16 +65,21 @@ OneLent {A} {R} Post = (a : A) (r r′ : R) (s s′ : Three) → Post a r s → 
 abbrev pub OneAsked : {A R : Type 0} → (A → R → Asked → Type 0) → Type 0
 OneAsked {A} {R} Post = (a : A) (r r′ : R) (s s′ : Asked) → Post a r s → Post a r′ s′ → (r ≡ r′) × (fourth s ≡ fourth s′)
 
+abbrev pub OneLogged : {A R : Type 0} → (A → R → Logged → Type 0) → Type 0
+OneLogged {A} {R} Post = (a : A) (r r′ : R) (s s′ : Logged) → Post a r s → Post a r′ s′ → (r ≡ r′) × (bytesIn s ≡ bytesIn s′) × (wordsIn s ≡ wordsIn s′)
+
 pub record OneAnswer : Type 0 where
   pub run : (κs : Lfts 2) → OneLent (run.Post κs)
   pub translate : (κs : Lfts 2) → OneLent (translate.Post κs)
   pub translate-to : (κs : Lfts 2) → OneAsked (translate-to.Post κs)
   pub first-step : (κs : Lfts 1) → One (first-step.Post κs)
+  pub replay : (κs : Lfts 4) → OneLogged (replay.Post κs)
   pub draw : (κs : Lfts 2) → OneLentTwo (draw.Post κs)
   pub undraw : (κs : Lfts 2) → OneLentTwo (undraw.Post κs)
   pub c-run : (κs : Lfts 2) → OneLent (c-run.Post κs)
   pub c-translate : (κs : Lfts 2) → OneLent (c-translate.Post κs)
   pub c-translate-to : (κs : Lfts 2) → OneAsked (c-translate-to.Post κs)
   pub c-first-step : (κs : Lfts 1) → One (c-first-step.Post κs)
+  pub c-replay : (κs : Lfts 4) → OneLogged (c-replay.Post κs)
   pub c-draw : (κs : Lfts 2) → OneLentTwo (c-draw.Post κs)
   pub c-undraw : (κs : Lfts 2) → OneLentTwo (c-undraw.Post κs)

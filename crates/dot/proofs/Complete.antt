@@ -1,20 +1,25 @@
 -- Every text that fits is read to its end: no item takes a byte that the one before it would take.
-use Prim.Native.Nat.{ℕ, zero, suc, _≤_, _<_, _-_, _+_, _*_, _/_, _%_}
+use Prim.Native.Nat.{ℕ, zero, suc, _≤_, _<_, _-_, _+_, _*_, _%_}
 use mathlib.Core.Path.{_≡_, refl, sym, ap, _∙_}
 use mathlib.Core.Bool.{Bool, true, false, cond, _&&_, _||_, not, false≢true}
 use mathlib.Core.List.{List, [], _∷_, _++_}
 use native.Mathlib.Omega.{arith}
-use lib.Dec.{eqb, ltb}
-use borrow.Author.Tests.{le-leb, lt-leb, ltb-true, ltb-false, ne-eqb, eqb-true, not-true}
+use lib.Dec.{eqb}
+use lib.ListN.{length, length-append}
+use borrow.Author.Tests.{lt-leb, ne-eqb, eqb-true, not-true}
 use Rattle.fault.specs.Fault.{_if_else_}
-use Rattle.dot.specs.Numbers.{text, decimal}
+use Rattle.decimal.specs.Numbers.{text, decimal}
+use Rattle.decimal.specs.Digits.{isDigit}
+use Rattle.decimal.proofs.DigitLaws.{digit-range, goes-on-other}
+use Rattle.decimal.proofs.NumberLaws.{NoDigit, number-reads}
 use Rattle.dot.specs.Text.{isBlank, joint}
 use Rattle.dot.specs.Plan.{Slot, cell, coefficient, One, byte, blank as one-blank, line, kind, Item, gap, num, one, plan, bytes, lines, header, named, numbers, label, stateLine, ruleLine, ending}
-use Rattle.dot.specs.Reading.{isDigit, Num, none, minus, some, canMinus, limit, grown, no-more, grow, byteOf, Gathered, put, newState, newRule, nextState, Turn, halt, to, take1, ByteStep, stuck, at, growing, whole, next, ended, drawn, fault, onward, run}
+use Rattle.dot.specs.Reading.{Num, none, minus, some, canMinus, limit, grown, no-more, grow, begun, byteOf, Gathered, put, newState, newRule, nextState, Turn, halt, to, take1, ByteStep, stuck, at, growing, whole, next, ended, drawn, fault, shifted, onward, run}
 use Rattle.dot.proofs.Fits.{spell, allowed, Fits, done, blank, no-blank, number, single}
 use Rattle.senders.proofs.TallyLaws.{and-both as both}
 use Rattle.table.specs.Table.{typeBytes}
-use Rattle.dot.proofs.NumberLaws.{join, digit-range, limit-most, one-digit, two-digits, three-digits, negative, positive}
+use Rattle.dot.proofs.NumberLaws.{join, limit-most, negative, positive}
+use Rattle.dot.proofs.Digits.{shifted-none, first-made, grow-first, reads-longest}
 
 -- ---- neat plans: nothing that follows a gap takes a blank, and something that takes no digit follows each number
 abbrev noBlank : List Item → Bool
@@ -189,51 +194,23 @@ past-gap (c ∷ t) k r x {r′} n e = split (isBlank c) refl
 -- only a digit goes on with a number
 pub no-digit : (g n : Bool) (v c : ℕ) → isDigit c ≡ false → grow g (some n v) c ≡ no-more
 unfolding grow
-no-digit g n v c h = rw h
+no-digit g n v c h = rw (sym (goes-on-other c v (limit g n) refl h))
 
 -- a blank does not
 pub blank-no-digit : (g n : Bool) (v c : ℕ) → isBlank c ≡ true → grow g (some n v) c ≡ no-more
 blank-no-digit g n v c h = no-digit g n v c (small-no-digit c (blank-most c h))
 
--- a whole number may be left where the rest is taken
-past-number : (t : List ℕ) (s : Slot) (k : List Item) (r : Gathered) (n : Bool) (v : ℕ) {r′ : Gathered} →
-    noDigit k ≡ true → run t k (put s (byteOf n v) r) none ≡ drawn r′ → run t (num s ∷ k) r (some n v) ≡ drawn r′
-unfolding run ended next onward growing whole
-past-number [] s k r n v m e = not-drawn (rw (not-ended k m) at e)
-past-number (c ∷ t) s k r n v {r′} m e = split (isDigit c) refl
+-- nor does what is taken after a number begin with one
+leaves : (t : List ℕ) (k : List Item) (r : Gathered) {r′ : Gathered} → noDigit k ≡ true → run t k r none ≡ drawn r′ → NoDigit t
+unfolding run onward
+leaves [] k r m e = tt
+leaves (c ∷ t) k r m e = split (isDigit c) refl
   where
-    split : (b : Bool) → isDigit c ≡ b →
-        onward (growing (grow (canMinus s) (some n v) c) s k r (next k (put s (byteOf n v) r) none c)) (run t) ≡ drawn r′
-    split true h = not-drawn (sym (ap (λ (q : ByteStep). onward q (run t)) (digit-stuck k (put s (byteOf n v) r) c m h)) ∙ e)
-    split false h = rw (no-digit (canMinus s) n v c h) e
+    split : (b : Bool) → isDigit c ≡ b → isDigit c ≡ false
+    split true h = not-drawn (sym (ap (λ (q : ByteStep). onward q (run t)) (digit-stuck k r c m h)) ∙ e)
+    split false h = h
 
--- ---- the digits of a number are taken one by one
--- the digits' bytes are 48 to 57
-is-digit : (d : ℕ) → d < 10 → isDigit (48 + d) ≡ true
-unfolding isDigit
-is-digit d h = rw (le-leb 48 (48 + d) (omega arith), le-leb (48 + d) 57 (omega arith))
-
--- before the first digit
-abbrev begun : Bool → Num
-begun false = none
-begun true = minus
-
--- the first digit, after a minus not 0
-grow-first : (g n : Bool) (d : ℕ) → d < 10 → (n ≡ true → 1 ≤ d) → grow g (begun n) (48 + d) ≡ grown (some n d)
-unfolding grow
-grow-first g false d l p = let e : 48 + d - 48 ≡ d = omega arith in rw (is-digit d l, e)
-grow-first g true d l p =
-    let e : 48 + d - 48 ≡ d = omega arith in
-    let o : 1 ≤ d = p refl in
-    rw (is-digit d l, ne-eqb (48 + d) 48 (λ q. omega arith), e)
-
--- a further digit
-grow-next : (g n : Bool) (v d w : ℕ) → d < 10 → 1 ≤ v → v * 10 + d ≡ w → w ≤ limit g n → grow g (some n v) (48 + d) ≡ grown (some n w)
-unfolding grow
-grow-next g n v d w l p e m =
-    let o : v * 10 + (48 + d - 48) ≡ w = omega arith in
-    rw (is-digit d l, ne-eqb v 0 (λ q. omega arith), o, le-leb w (limit g n) m)
-
+-- ---- a number is taken, and left where the rest is taken
 module _ (t : List ℕ) (s : Slot) (k : List Item) (r : Gathered) (r′ : Gathered) where
   -- a byte that the number takes
   take-byte : (c : ℕ) (u : List ℕ) (x y : Num) → grow (canMinus s) x c ≡ grown y → run u (num s ∷ k) r y ≡ drawn r′ →
@@ -242,40 +219,25 @@ module _ (t : List ℕ) (s : Slot) (k : List Item) (r : Gathered) (r′ : Gather
   take-byte c u x y h e = rw (h, e)
 
   -- all digits
-  take-decimal : (n : Bool) (v : ℕ) → v ≤ limit (canMinus s) n → (n ≡ true → 1 ≤ v) → run t (num s ∷ k) r (some n v) ≡ drawn r′ →
+  take-decimal : (n : Bool) (v : ℕ) → v ≤ limit (canMinus s) n → (n ≡ true → 1 ≤ v) → noDigit k ≡ true → run t k (put s (byteOf n v) r) none ≡ drawn r′ →
       run (decimal v ++ t) (num s ∷ k) r (begun n) ≡ drawn r′
-  take-decimal n v l p e = split (ltb v 10) (ltb v 100) refl refl
-    where
-      split : (a b : Bool) → ltb v 10 ≡ a → ltb v 100 ≡ b → run (decimal v ++ t) (num s ∷ k) r (begun n) ≡ drawn r′
-      split true b h i =
-          let g = canMinus s in
-          let o = ltb-true v 10 h in
-          rw (one-digit v o) (take-byte (48 + v) t (begun n) (some n v) (grow-first g n v o p) e)
-      split false true h i =
-          let g = canMinus s in
-          let o = ltb-false v 10 h in
-          let q = ltb-true v 100 i in
-          rw (two-digits v o q)
-          (take-byte (48 + v / 10) _ (begun n) (some n (v / 10)) (grow-first g n (v / 10) (omega arith) (λ z. omega arith))
-          (take-byte (48 + v % 10) t (some n (v / 10)) (some n v) (grow-next g n (v / 10) (v % 10) v (omega arith) (omega arith) (omega arith) l) e))
-      split false false h i =
-          let g = canMinus s in
-          let o = ltb-false v 100 i in
-          let m = limit-most g n in
-          rw (three-digits v o)
-          (take-byte (48 + v / 100) _ (begun n) (some n (v / 100)) (grow-first g n (v / 100) (omega arith) (λ z. omega arith))
-          (take-byte (48 + v / 10 % 10) _ (some n (v / 100)) (some n (v / 10))
-          (grow-next g n (v / 100) (v / 10 % 10) (v / 10) (omega arith) (omega arith) (omega arith) (omega arith))
-          (take-byte (48 + v % 10) t (some n (v / 10)) (some n v) (grow-next g n (v / 10) (v % 10) v (omega arith) (omega arith) (omega arith) l) e)))
+  take-decimal n v l p m e =
+      let g = canMinus s in
+      let q = number-reads (limit g n) t (leaves t k (put s (byteOf n v) r) m e) v l (limit-most g n) in
+      rw (q .text)
+      (take-byte (q .first) (q .others ++ t) (begun n) (some n (q .first - 48)) (grow-first g n (q .first) (first-made n (q .first) (q .digit) (λ h. q .positive (p h))))
+      (shifted-none _ ∙
+      reads-longest s k r n (not-ended k m) (q .others ++ t) 0 (q .first - 48) (length (q .others)) (record { size = v; after = t }) (q .reads) (omega (arith, length-append (q .others) t)) ∙
+      ap (shifted (length (q .others))) e))
 
   -- and the minus before them
-  take-number : (n : Bool) (v : ℕ) → allowed (canMinus s) n v ≡ true → run t (num s ∷ k) r (some n v) ≡ drawn r′ →
+  take-number : (n : Bool) (v : ℕ) → allowed (canMinus s) n v ≡ true → noDigit k ≡ true → run t k (put s (byteOf n v) r) none ≡ drawn r′ →
       run (spell (some n v) ++ t) (num s ∷ k) r none ≡ drawn r′
   unfolding spell grow isDigit
-  take-number false v a e = take-decimal false v (positive (canMinus s) v a) (λ z. absurd (false≢true z)) e
-  take-number true v a e =
+  take-number false v a m e = take-decimal false v (positive (canMinus s) v a) (λ z. absurd (false≢true z)) m e
+  take-number true v a m e =
       let p = negative (canMinus s) v a in
-      take-byte 45 (decimal v ++ t) none minus (rw (p .can)) (take-decimal true v (p .most) (λ z. p .least) e)
+      take-byte 45 (decimal v ++ t) none minus (rw (p .can)) (take-decimal true v (p .most) (λ z. p .least) m e)
 
 -- ---- a whole text
 -- an item of one byte
@@ -308,6 +270,6 @@ complete n (no-blank {k = k} {r = r} {t = t} f) =
     let p = both (noBlank k) (neat k) n in past-gap t k r none (p .0) (complete (p .1) f)
 complete n (number {s = s} {k = k} {r = r} {r′ = r′} {t = t} m v d ok h f) =
     let p = both (noDigit k) (neat k) n in
-    rw (from-none d (spell (some m v)) h) (take-number t s k r r′ m v ok (past-number t s k r m v (p .0) (complete (p .1) f)))
+    rw (from-none d (spell (some m v)) h) (take-number t s k r r′ m v ok (p .0) (complete (p .1) f))
 complete n (single {o = o} {k = k} {k′ = k′} {r = r} {r′ = r′} {r″ = r″} {c = c} {t = t} h f) =
     past-one o k k′ r r′ r″ c t h (complete (rw h at (neat-turn o k r c n)) f)

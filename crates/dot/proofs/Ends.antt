@@ -8,7 +8,7 @@ use lib.Dec.{eqb}
 use borrow.Author.Tests.{eq-eqb}
 use Rattle.fault.specs.Fault.{_if_else_}
 use Rattle.table.specs.Table.{typeBytes}
-use Rattle.dot.specs.Numbers.{text, decimal}
+use Rattle.decimal.specs.Numbers.{text, decimal}
 use Rattle.dot.specs.Text.{isBlank, joint}
 use Rattle.dot.specs.Plan.{Slot, cell, coefficient, byte, blank as one-blank, line, kind, Item, gap, num, one, plan, bytes, numbers, label, ruleLine}
 use Rattle.dot.specs.Reading.{Num, none, minus, some, canMinus, byteOf, Gathered, put, newRule, to, take1}

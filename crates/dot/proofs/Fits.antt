@@ -5,7 +5,7 @@ use mathlib.Core.Bool.{Bool, true, false, _&&_}
 use mathlib.Core.List.{List, [], _∷_, _++_}
 use lib.Dec.{leb}
 use lib.ListN.{length, take}
-use Rattle.dot.specs.Numbers.{decimal}
+use Rattle.decimal.specs.Numbers.{decimal}
 use Rattle.dot.specs.Text.{isBlank}
 use Rattle.dot.specs.Plan.{Slot, One, Item, gap, num, one, header}
 use Rattle.dot.specs.Reading.{Num, none, minus, some, Gathered, nothingRead, put, take1, to, canMinus, limit, byteOf}

@@ -7,10 +7,11 @@ use native.Mathlib.Omega.{arith}
 use lib.Dec.{eqb, leb}
 use borrow.Author.Tests.{eqb-true, not-true, ne-eqb}
 use Rattle.fault.specs.Fault.{_if_else_}
-use Rattle.dot.specs.Numbers.{text}
+use Rattle.decimal.specs.Numbers.{text}
+use Rattle.decimal.specs.Digits.{isDigit, goesOn}
 use Rattle.dot.specs.Text.{isBlank, joint, Piece, space, Spaced, over, letter, one-more, no-more as no-blank, needed, tableText}
 use Rattle.dot.specs.Plan.{Slot, cell, coefficient, One, byte, blank as one-blank, line, kind, Item, gap, num, one, plan, bytes, lines, header, named, numbers, label, stateLine, ruleLine, ending}
-use Rattle.dot.specs.Reading.{isDigit, Num, none, minus, some, canMinus, limit, Grown, grown, no-more, grow, byteOf, Gathered, nothingRead, put, newState, newRule, nextState, Turn, halt, to, take1, ByteStep, stuck, at, turned, growing, whole, next, ended, Outcome, drawn, fault, later, onward, run, reading}
+use Rattle.dot.specs.Reading.{Num, none, minus, some, canMinus, limit, Grown, grown, no-more, grow, byteOf, Gathered, nothingRead, put, newState, newRule, nextState, Turn, halt, to, take1, ByteStep, stuck, at, turned, growing, whole, next, ended, Outcome, drawn, fault, later, onward, run, reading}
 use Rattle.dot.specs.Drawing.{Tokens, Drawing}
 use Rattle.dot.specs.Blanks.{go-on, reach, Between, BetweenAt, beginsBlank, beginsDigit, endsDigit, Gap}
 use Rattle.senders.proofs.TallyLaws.{and-both as both}
@@ -140,7 +141,7 @@ DigitGrown b no-more = Unit {0}
 DigitGrown b (grown y) = DigitNum b y
 
 digit-grow : (g : Bool) (x : Num) (c : ℕ) → DigitGrown (isDigit c) (grow g x c)
-unfolding grow
+unfolding grow goesOn
 digit-grow g none c = go (isDigit c) (eqb c 45 && g)
   where
     go : (b t : Bool) → DigitGrown b (cond b (grown (some false (c - 48))) (cond t (grown minus) no-more))
@@ -265,7 +266,7 @@ module _ (u q : List ℕ) (b : Bool) (s : beginsBlank u ≡ false) (m : (b && be
       go (e ∷ q) m = no-digit (canMinus c) n v e (rw d at m)
 
   here : (k : List Item) (r : Gathered) (x : Num) → fair k ≡ true → DigitNum b x → Drawn (run u k r x) → ((c : ℕ) → isBlank c ≡ true → Drawn (run (c ∷ u) k r x)) → Between k x q
-  unfolding run next take1 onward growing whole grow isDigit isBlank
+  unfolding run next take1 onward growing whole grow goesOn isDigit isBlank
   here [] r x f d h g = absurd (g 9 refl)
   here (gap ∷ k) r x f d h g = tt
   here (one (byte b) ∷ k) r x f d h g = absurd (one-byte b k r (run u) (g 9 refl) (g 13 refl))

@@ -1,5 +1,6 @@
 pub mod Fits
 pub mod NumberLaws
+pub mod Digits
 pub mod Sound
 pub mod Ends
 pub mod Complete

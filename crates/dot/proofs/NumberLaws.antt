@@ -1,77 +1,24 @@
 -- A number and its digits: each byte that a number takes is the next of its decimal text.
-use Prim.Native.Nat.{ℕ, _≤_, _<_, _/_, _%_, _+_, _-_, _*_}
+use Prim.Native.Nat.{ℕ, _≤_, _<_, _+_, _-_, _*_}
 use mathlib.Core.Path.{_≡_, refl}
 use mathlib.Core.Bool.{Bool, true, false, cond, _&&_, not, false≢true}
-use mathlib.Core.List.{List, [], _∷_, _++_}
+use mathlib.Core.List.{[], _∷_, _++_}
 use native.Mathlib.Omega.{arith}
 use lib.Dec.{eqb, leb, ltb}
 use borrow.Author.Tests.{ltb-true, ltb-false, leb-true, eqb-true, eqb-false, lt-ltb, le-ltb, le-leb, not-true}
 use Rattle.senders.proofs.TallyLaws.{and-both as both}
 use Rattle.fault.specs.Fault.{_if_else_}
-use Rattle.dot.specs.Numbers.{decimal, signed, spelling}
-use Rattle.dot.specs.Reading.{isDigit, Num, none, minus, some, Grown, grown, no-more, grow, limit, byteOf}
+use Rattle.decimal.specs.Numbers.{signed, spelling}
+use Rattle.decimal.specs.Digits.{isDigit, goesOn}
+use Rattle.decimal.proofs.DigitLaws.{Digit, digit-range, goes-on}
+use Rattle.decimal.proofs.NumberLaws.{digit-first, digit-next}
+use Rattle.dot.specs.Reading.{Num, none, minus, some, Grown, grown, no-more, grow, limit, byteOf}
 use Rattle.dot.proofs.Fits.{spell, allowed}
 
 -- ---- tests
 -- the test of two that both pass
 pub join : (a b : Bool) → a ≡ true → b ≡ true → (a && b) ≡ true
 join a b p q = rw (p, q)
-
--- a digit lies from 48 to 57
-pub record Digit (c : ℕ) : Type 0 where
-  pub from : 48 ≤ c
-  pub to : c ≤ 57
-
--- and a byte that passes the test is one
-pub digit-range : (c : ℕ) → isDigit c ≡ true → Digit c
-unfolding isDigit
-digit-range c h =
-    let p = both (leb 48 c) (leb c 57) h in
-    record { from = leb-true 48 c (p .0); to = leb-true c 57 (p .1) }
-
--- ---- decimal text
--- below 10
-pub one-digit : (v : ℕ) → v < 10 → decimal v ≡ (48 + v) ∷ []
-unfolding decimal _if_else_
-one-digit v h = rw (lt-ltb v 10 h)
-
--- below 100
-pub two-digits : (v : ℕ) → 10 ≤ v → v < 100 → decimal v ≡ (48 + v / 10) ∷ (48 + v % 10) ∷ []
-unfolding decimal _if_else_
-two-digits v l h = rw (le-ltb v 10 l, lt-ltb v 100 h)
-
--- from 100 on
-pub three-digits : (v : ℕ) → 100 ≤ v → decimal v ≡ (48 + v / 100) ∷ (48 + v / 10 % 10) ∷ (48 + v % 10) ∷ []
-unfolding decimal _if_else_
-three-digits v l = let o : 10 ≤ v = omega arith in rw (le-ltb v 10 o, le-ltb v 100 l)
-
--- a digit is the text of the number that it stands for
-digit-first : (c : ℕ) → Digit c → decimal (c - 48) ≡ c ∷ []
-digit-first c d =
-    let o : c - 48 < 10 = omega arith in
-    let e : 48 + (c - 48) ≡ c = omega arith in
-    rw (one-digit (c - 48) o, e)
-
--- a digit more at the end of a number that is not 0
-digit-next : (v c : ℕ) → Digit c → (v ≡ 0 → ⊥) → v * 10 + (c - 48) ≤ 255 → decimal (v * 10 + (c - 48)) ≡ decimal v ++ (c ∷ [])
-digit-next v c d nz l = go (ltb v 10) refl
-  where
-    go : (b : Bool) → ltb v 10 ≡ b → decimal (v * 10 + (c - 48)) ≡ decimal v ++ (c ∷ [])
-    go true h =
-        let l10 : v < 10 = ltb-true v 10 h in
-        let a : 10 ≤ v * 10 + (c - 48) = omega arith in
-        let b : v * 10 + (c - 48) < 100 = omega arith in
-        let e : (v * 10 + (c - 48)) / 10 ≡ v = omega arith in
-        let f : 48 + (v * 10 + (c - 48)) % 10 ≡ c = omega arith in
-        rw (two-digits (v * 10 + (c - 48)) a b, one-digit v l10, e, f)
-    go false h =
-        let l10 : 10 ≤ v = ltb-false v 10 h in
-        let l100 : v < 100 = omega arith in
-        let a : 100 ≤ v * 10 + (c - 48) = omega arith in
-        let e : (v * 10 + (c - 48)) / 100 ≡ v / 10 = omega arith in
-        let g : (v * 10 + (c - 48)) / 10 % 10 ≡ v % 10 = omega arith in
-        let f : 48 + (v * 10 + (c - 48)) % 10 ≡ c = omega arith in
-        rw (three-digits (v * 10 + (c - 48)) a, two-digits v l10 l100, e, g, f)
 
 -- ---- ranges
 -- no number is above 255
@@ -175,34 +122,29 @@ grew-minus g c = go (isDigit c && not (eqb c 48)) refl
         }
 
 -- a further digit
-grew-digit : (g n : Bool) (v c : ℕ) → Digit c → (v ≡ 0 → ⊥) → v * 10 + (c - 48) ≤ limit g n →
+grew-digit : (g n : Bool) (v c : ℕ) → Digit c → 1 ≤ v → v * 10 + (c - 48) ≤ limit g n →
     Grew g (some n v) (some n (v * 10 + (c - 48))) c
 unfolding spell
-grew-digit g false v c d nz l =
+grew-digit g false v c d o l =
     record {
-      spelt = digit-next v c d nz (omega (arith, limit-most g false));
+      spelt = digit-next v c d (λ z. omega (arith, z)) (omega (arith, limit-most g false));
       range-after = λ _. positive-allowed g (v * 10 + (c - 48)) l;
     }
-grew-digit g true v c d nz l =
+grew-digit g true v c d o l =
     record {
-      spelt = rw (digit-next v c d nz (omega (arith, limit-most g true)));
+      spelt = rw (digit-next v c d (λ z. omega (arith, z)) (omega (arith, limit-most g true)));
       range-after = λ m.
-          negative-allowed g (v * 10 + (c - 48)) (record { can = negative g v m .can; least = omega (arith, nz); most = l });
+          negative-allowed g (v * 10 + (c - 48)) (record { can = negative g v m .can; least = omega arith; most = l });
     }
 
 -- whether there is a further digit or not
 grew-some : (g n : Bool) (v c : ℕ) → GrewTo g (some n v) c (grow g (some n v) c)
 unfolding grow
-grew-some g n v c = go (isDigit c && not (eqb v 0) && leb (v * 10 + (c - 48)) (limit g n)) refl
+grew-some g n v c = go (goesOn c v (limit g n)) refl
   where
-    go : (b : Bool) → (isDigit c && not (eqb v 0) && leb (v * 10 + (c - 48)) (limit g n)) ≡ b →
-        GrewTo g (some n v) c (cond b (grown (some n (v * 10 + (c - 48)))) no-more)
+    go : (b : Bool) → goesOn c v (limit g n) ≡ b → GrewTo g (some n v) c (cond b (grown (some n (v * 10 + (c - 48)))) no-more)
     go false h = tt
-    go true h =
-        let p = both (isDigit c && not (eqb v 0)) (leb (v * 10 + (c - 48)) (limit g n)) h in
-        let q = both (isDigit c) (not (eqb v 0)) (p .0) in
-        grew-digit g n v c (digit-range c (q .0)) (eqb-false v 0 (not-true (eqb v 0) (q .1)))
-        (leb-true (v * 10 + (c - 48)) (limit g n) (p .1))
+    go true h = let q = goes-on c v (limit g n) h in grew-digit g n v c (q .digit) (q .some) (q .within)
 
 -- whatever byte a number takes is the next of its text, and leaves it in range
 pub grew : (g : Bool) (x : Num) (c : ℕ) → GrewTo g x c (grow g x c)

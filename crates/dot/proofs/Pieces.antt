@@ -5,7 +5,7 @@ use mathlib.Core.Bool.{Bool, true, false, cond}
 use mathlib.Core.List.{List, [], _∷_, _++_}
 use lib.Dec.{eqb}
 use borrow.Author.Tests.{eqb-true}
-use Rattle.dot.specs.Numbers.{spelling}
+use Rattle.decimal.specs.Numbers.{spelling}
 use Rattle.dot.specs.Text.{isBlank, Piece, char, space, must, Spaced, over, letter, one-more, no-more, needed, chars, after}
 use Rattle.dot.specs.Plan.{Slot, One, byte, blank as one-blank, Item, gap, num, one, bytes}
 use Rattle.dot.specs.Reading.{Num, none, some, canMinus, byteOf, Gathered, put, Turn, halt, to, take1, turned}

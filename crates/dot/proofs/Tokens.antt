@@ -10,7 +10,7 @@ use lib.ListN.{length, take, length-append, length-take}
 use lib.Seq.{length-take-le, take-length, getD-at}
 use Rattle.fault.specs.Bytes.{byteAt}
 use Rattle.table.specs.Table.{typeBytes, ruleBytes, stateBytes, endBytes, recordsBytes}
-use Rattle.dot.specs.Numbers.{text, decimal, spelling}
+use Rattle.decimal.specs.Numbers.{text, decimal, spelling}
 use Rattle.dot.specs.Text.{Piece, space, Spaced, over, chars, after, newLine, tight, aBlank, joint, numbersText, labelText, stateText, ruleText, statesText, rulesText, endText, headText, tableText}
 use Rattle.dot.specs.Plan.{Slot, types, factor, cell, coefficient, line, kind, Item, gap, num, one, lines, ending, named, numbers, label, stateLine, ruleLine}
 use Rattle.dot.specs.Reading.{none, canMinus, Gathered, nothingRead, put, newState, newRule, nextState, halt, to, take1, turned, drawn, reading}

@@ -12,7 +12,7 @@ use borrow.Author.Tests.{eq-eqb}
 use Rattle.fault.specs.Bytes.{byteAt, trailerBytes}
 use Rattle.table.specs.Table.{statesOf, rulesOf, typesOf, factorOf, typeBytes, ruleBytes, stateBytes, endBytes, recordsBytes}
 use Rattle.table.specs.Facts.{Sized}
-use Rattle.dot.specs.Numbers.{text, decimal, signed, spelling}
+use Rattle.decimal.specs.Numbers.{text, decimal, signed, spelling}
 use Rattle.dot.specs.Text.{isBlank, Piece, char, space, must, written, Spaced, over, letter, one-more, no-more, needed, chars, headText, joint, numbersText, labelText, stateText, ruleText, statesText, rulesText, endText, tableText, drawingOf}
 use Rattle.dot.specs.Plan.{Slot, types, factor, name, cell, coefficient, Item, lines, header, named, numbers, label, stateLine, ruleLine, ending}
 use Rattle.dot.specs.Reading.{canMinus, Gathered, nothingRead, put, newState, newRule, nextState, to, take1, drawn, reading}

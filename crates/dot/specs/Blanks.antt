@@ -4,9 +4,10 @@ use Prim.Native.Nat.{ℕ, zero, suc}
 use mathlib.Core.Path.{_≡_}
 use mathlib.Core.Bool.{Bool, true, false}
 use mathlib.Core.List.{List, [], _∷_, _++_}
+use Rattle.decimal.specs.Digits.{isDigit}
 use Rattle.dot.specs.Text.{isBlank}
 use Rattle.dot.specs.Plan.{Item, gap, num, one}
-use Rattle.dot.specs.Reading.{isDigit, Num, none, minus, some, canMinus, grow, no-more, Gathered, ByteStep, stuck, at, next, ended, Outcome, drawn, fault, later}
+use Rattle.dot.specs.Reading.{Num, none, minus, some, canMinus, grow, no-more, Gathered, ByteStep, stuck, at, next, ended, Outcome, drawn, fault, later}
 use Rattle.dot.specs.Drawing.{Drawing}
 
 -- where reading stands after p

@@ -1,4 +1,3 @@
-pub mod Numbers
 pub mod Text
 pub mod Plan
 pub mod Reading

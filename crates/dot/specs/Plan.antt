@@ -5,7 +5,7 @@ use mathlib.Core.List.{List, [], _∷_}
 use mathlib.Core.Bool.{cond}
 use lib.Dec.{eqb}
 use Rattle.table.specs.Table.{typeBytes, stateBytes}
-use Rattle.dot.specs.Numbers.{text}
+use Rattle.decimal.specs.Numbers.{text}
 use Rattle.dot.specs.Text.{joint}
 
 -- which number: T, k, the name at a line's start, another that the table has, or a coefficient

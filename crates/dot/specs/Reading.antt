@@ -2,18 +2,21 @@
 use Prim.Native.Nat.{ℕ, suc, _+_, _-_, _*_}
 use mathlib.Core.Bool.{Bool, true, false, cond, _&&_, not}
 use mathlib.Core.List.{List, [], _∷_, _++_}
-use lib.Dec.{eqb, leb}
+use lib.Dec.{eqb}
+use Rattle.decimal.specs.Digits.{isDigit, goesOn}
 use Rattle.dot.specs.Text.{isBlank}
 use Rattle.dot.specs.Plan.{Slot, types, factor, name, cell, coefficient, One, byte, blank, line, kind, Item, gap, num, one, header, named, stateLine, ruleLine, ending}
 
 -- ---- numbers
-unfoldable pub isDigit : ℕ → Bool
-isDigit c = leb 48 c && leb c 57
-
 -- what is read of a number: nothing, its minus, or its sign (true for minus) and its size so far
 pub data Num : Type 0 where
   none minus : Num
   some : Bool → ℕ → Num
+
+-- before its digits: after its minus or not
+abbrev pub begun : Bool → Num
+begun true = minus
+begun false = none
 
 unfoldable pub canMinus : Slot → Bool
 canMinus coefficient = true
@@ -34,8 +37,7 @@ pub data Grown : Type 0 where
 unfoldable pub grow : Bool → Num → ℕ → Grown
 grow g none c = cond (isDigit c) (grown (some false (c - 48))) (cond (eqb c 45 && g) (grown minus) no-more)
 grow g minus c = cond (isDigit c && not (eqb c 48)) (grown (some true (c - 48))) no-more
-grow g (some b v) c =
-    cond (isDigit c && not (eqb v 0) && leb (v * 10 + (c - 48)) (limit g b)) (grown (some b (v * 10 + (c - 48)))) no-more
+grow g (some b v) c = cond (goesOn c v (limit g b)) (grown (some b (v * 10 + (c - 48)))) no-more
 
 -- the byte that a whole number stands for
 abbrev pub byteOf : Bool → ℕ → ℕ
@@ -130,6 +132,11 @@ pub data Outcome : Type 0 where
 abbrev pub later : Outcome → Outcome
 later (drawn r) = drawn r
 later (fault p) = fault (suc p)
+
+-- i bytes later
+abbrev pub shifted : ℕ → Outcome → Outcome
+shifted i (drawn r) = drawn r
+shifted i (fault p) = fault (i + p)
 
 unfoldable pub onward : ByteStep → (List Item → Gathered → Num → Outcome) → Outcome
 onward stuck f = fault 0

@@ -8,7 +8,7 @@ use lib.Dec.{eqb}
 use Rattle.fault.specs.Bytes.{byteAt}
 use Rattle.fault.specs.Fault.{_if_else_}
 use Rattle.table.specs.Table.{statesOf, rulesOf, typesOf, factorOf, typeBytes, ruleBytes, stateBytes, endBytes}
-use Rattle.dot.specs.Numbers.{text, decimal, signed}
+use Rattle.decimal.specs.Numbers.{text, decimal, signed}
 
 -- ---- pieces
 -- space, tab, line feed, carriage return

@@ -1,21 +1,24 @@
 -- A number, digit by digit.
 use mathlib.Core.Path.{_≡_, refl, sym, ap, _∙_}
 use mathlib.Core.Bool.{Bool, true, false, cond, not, _&&_, true≢false}
-use mathlib.Core.List.{List, [], _∷_}
-use Prim.Native.Nat.{ℕ, _+_, _-_, _*_, _≤_, _<_}
+use mathlib.Core.List.{List, _∷_}
+use Prim.Native.Nat.{ℕ, _+_, _-_, _≤_, _<_}
 use native.Mathlib.Omega.{arith}
-use lib.Dec.{eqb, leb}
-use lib.ListN.{length}
-use borrow.Author.Tests.{eqb-true, eqb-false, leb-true, not-true, not-false}
+use lib.Dec.{eqb}
+use lib.ListN.{length, drop, length-drop}
+use borrow.Author.Tests.{eqb-true, eqb-false, not-true, not-false}
 use Rattle.senders.proofs.TallyLaws.{and-both as both}
 use Rattle.fault.specs.Bytes.{byteAt}
+use Rattle.decimal.specs.declared.Number as declared
+use Rattle.decimal.specs.Digits.{isDigit, peeked, Number, Ends}
+use Rattle.decimal.proofs.DigitLaws.{seen, seen-byte, digit-range, longest-least}
 use Rattle.dot.specs.Plan.{Slot, Item, num}
-use Rattle.dot.specs.Reading.{isDigit, canMinus, limit, Num, none, minus, some, Grown, grown, no-more, grow, byteOf, Gathered, put, ByteStep, stuck, at, growing, whole, next, ended, fault}
-use Rattle.dot.proofs.NumberLaws.{digit-range}
+use Rattle.dot.specs.Reading.{canMinus, limit, none, minus, some, begun, grown, no-more, grow, byteOf, Gathered, put, stuck, at, growing, whole, next, ended}
+use Rattle.dot.proofs.Digits.{first, grow-first, reads-longest}
 use Rattle.drawing.specs.declared.Cursor.{Cursor}
-use Rattle.drawing.specs.Cursor.{from, reached, peeked, goesOn, begun, Begun, Counted, Digits, RestOfDigits}
-use Rattle.drawing.proofs.FromLaws.{Seen, seen, seen-byte, from-byte, from-end, from-not, from-same}
-use Rattle.drawing.proofs.PlanLaws.{at-free, at-stuck, stands, sticks}
+use Rattle.drawing.specs.Cursor.{from, Begun, Counted, Digits, RestOfDigits}
+use Rattle.drawing.proofs.FromLaws.{from-byte, from-not}
+use Rattle.drawing.proofs.PlanLaws.{at-free, at-stuck, sticks}
 
 -- ---- sizes
 pub limit-plain : (g b : Bool) → not g ≡ true → 255 ≡ limit g b
@@ -30,21 +33,7 @@ pub limit-above : (g b : Bool) → not g ≡ false → b ≡ false → 127 ≡ l
 unfolding limit
 limit-above g b h e = rw (not-false g h, e)
 
-pub digit-least : (x : ℕ) {d : Bool} → d ≡ isDigit x → d ≡ true → 48 ≤ x
-digit-least x e h = digit-range x (sym e ∙ h) .from
-
-pub goes-on-digit : (x v most : ℕ) {d : Bool} → d ≡ isDigit x → d ≡ true → (not (eqb v 0) && leb (v * 10 + (x - 48)) most) ≡ goesOn x v most
-unfolding goesOn
-goes-on-digit x v most e h = rw (sym e ∙ h)
-
-pub goes-on-other : (x v most : ℕ) {d : Bool} → d ≡ isDigit x → d ≡ false → false ≡ goesOn x v most
-unfolding goesOn
-goes-on-other x v most e h = rw (sym e ∙ h)
-
 -- ---- the first digit
-abbrev first : Bool → ℕ → Bool
-first neg x = isDigit x && not (neg && eqb x 48)
-
 pub record First (t : List ℕ) (i x : ℕ) (neg : Bool) : Type 0 where
   pub there : i + 1 ≤ length t
   pub least : 48 ≤ x
@@ -65,11 +54,6 @@ first-digit t i neg {x} e eb y =
       positive = λ n. let o : x ≡ 48 → ⊥ = eqb-false x 48 (not-true (eqb x 48) (rw n at (p .1))) in omega (arith, o, a .from);
     }
 
-grow-first-digit : (g neg : Bool) (x : ℕ) → first neg x ≡ true → grow g (begun neg) x ≡ grown (some neg (x - 48))
-unfolding grow
-grow-first-digit g false x h = rw (both (isDigit x) (not (false && eqb x 48)) h .0)
-grow-first-digit g true x h = rw h
-
 pub digits-begin : {t : List ℕ} {i x : ℕ} {signed neg b : Bool} {d : Cursor} → x ≡ peeked t i → b ≡ first neg x → b ≡ true →
     RestOfDigits t (i + 1) (x - 48) signed neg d → Digits t i signed neg d
 unfolding next growing isDigit
@@ -82,7 +66,7 @@ digits-begin {t} {i} {x} {signed} {neg} {b} {d} e eb y f =
       further = λ _. f .onward;
       small = f .small;
       on = λ s k r m n.
-          from-byte t i (num s ∷ k) (num s ∷ k) r r (begun neg) (some neg (x - 48)) (z .there) (rw (z .byte-is, grow-first-digit (canMinus s) neg x h)) ∙
+          from-byte t i (num s ∷ k) (num s ∷ k) r r (begun neg) (some neg (x - 48)) (z .there) (rw (z .byte-is, grow-first (canMinus s) neg x h)) ∙
           f .on s k r m n;
     }
 
@@ -118,85 +102,21 @@ digits-none {t} {i} {x} {signed} {neg} {b} {d} l g e eb y f =
     })
 
 -- ---- the digits after it
-pub record Growing (t : List ℕ) (i v : ℕ) (signed neg : Bool) (j w : ℕ) : Type 0 where
-  pub within : j ≤ length t
-  pub onward : i ≤ j
-  pub size : w ≤ 255
-  pub positive : neg ≡ true → 1 ≤ w
-  pub on : (s : Slot) (k : List Item) (r : Gathered) → canMinus s ≡ signed → from t i (num s ∷ k) r (some neg v) ≡ from t j (num s ∷ k) r (some neg w)
+pub rest-positive : {t : List ℕ} {i v most : ℕ} {neg : Bool} {n : declared.Number} → Ends t i v most n → (neg ≡ true → 1 ≤ v) → neg ≡ true → 1 ≤ n .value
+rest-positive {t} {i} {v} {most} e p h = let o = p h in omega (arith, o, longest-least most v (drop i t), ap (λ (z : Number). z .size) (e .whole))
 
-pub rest-begins : {t : List ℕ} {i v : ℕ} {signed neg : Bool} → i ≤ length t → v < 10 → (neg ≡ true → 1 ≤ v) → Growing t i v signed neg i v
-rest-begins l h p = record { within = l; onward = omega arith; size = omega arith; positive = p; on = λ s k r m. refl }
-
-goes-on-size : (x w most : ℕ) → goesOn x w most ≡ true → (isDigit x ≡ true) × (48 ≤ x) × (1 ≤ w) × (w * 10 + (x - 48) ≤ most)
-unfolding goesOn
-goes-on-size x w most h =
-    let p = both (isDigit x && not (eqb w 0)) (leb (w * 10 + (x - 48)) most) h in
-    let q = both (isDigit x) (not (eqb w 0)) (p .0) in
-    let z : w ≡ 0 → ⊥ = eqb-false w 0 (not-true (eqb w 0) (q .1)) in
-    (q .0, digit-least x refl (q .0), omega (arith, z), leb-true (w * 10 + (x - 48)) most (p .1))
-
-none-over : (w most : ℕ) → goesOn 256 w most ≡ false
-unfolding goesOn isDigit
-none-over w most = refl
-
--- what a digit that goes on is
-pub record Next (t : List ℕ) (j w y : ℕ) : Type 0 where
-  pub there : j < length t
-  pub least : 48 ≤ y
-  pub most : w * 10 + (y - 48) ≤ 255
-
-pub goes-on-next : (t : List ℕ) (j w : ℕ) {x y most : ℕ} {b : Bool} → x ≡ peeked t j → b ≡ goesOn x w most → b ≡ true → y ≡ peeked t j → most ≤ 255 → Next t j w y
-goes-on-next t j w {x} {y} {most} ex eb h ey l =
-    let q = goes-on-size x w most (sym eb ∙ h) in
-    let z : y ≡ x = ey ∙ sym ex in
+pub rest-reads : {t : List ℕ} {i v u most : ℕ} {signed neg : Bool} {n : declared.Number} → most ≡ limit signed neg → Ends t i v most n →
+    u ≡ byteOf neg (n .value) → u < 256 → RestOfDigits t i v signed neg (record { place = n .place; stuck = false; value = u })
+unfolding from
+rest-reads {t} {i} {v} {u} {most} {signed} {neg} {n} em e eu lu =
     record {
-      there = seen (λ (x : ℕ). goesOn x w most) t j (none-over w most) ex (sym eb ∙ h) .there;
-      least = omega (arith, z, q .1);
-      most = omega (arith, z, q .3);
-    }
-
-grow-next-digit : (g neg : Bool) (x w : ℕ) → goesOn x w (limit g neg) ≡ true → grow g (some neg w) x ≡ grown (some neg (w * 10 + (x - 48)))
-unfolding grow goesOn
-grow-next-digit g neg x w h = rw h
-
-grow-end : (g neg : Bool) (x w : ℕ) → goesOn x w (limit g neg) ≡ false → grow g (some neg w) x ≡ no-more
-unfolding grow goesOn
-grow-end g neg x w h = rw h
-
-pub rest-goes-on : {t : List ℕ} {i v j w x y most : ℕ} {signed neg b : Bool} → Growing t i v signed neg j w → most ≡ limit signed neg → most ≤ 255 →
-    x ≡ peeked t j → b ≡ goesOn x w most → b ≡ true → y ≡ peeked t j → Growing t i v signed neg (j + 1) (w * 10 + (y - 48))
-unfolding next growing
-rest-goes-on {t} {i} {v} {j} {w} {x} {y} {most} {signed} {neg} {b} g em lm e eb taken ey =
-    rw (ey ∙ sym e)
-    (let h : goesOn x w most ≡ true = sym eb ∙ taken in
-    let z = seen (λ (x : ℕ). goesOn x w most) t j (none-over w most) e h in
-    let q = goes-on-size x w most h in
-    record {
-      within = omega (arith, z .there);
-      onward = omega (arith, g .onward);
-      size = omega (arith, q .3);
-      positive = λ _. omega (arith, q .2);
-      on = λ s k r m.
-          g .on s k r m ∙
-          from-byte t j (num s ∷ k) (num s ∷ k) r r (some neg w) (some neg (w * 10 + (x - 48))) (z .there)
-          (rw (z .byte-is, grow-next-digit (canMinus s) neg x w (rw (m, ← em) h)));
-    })
-
-pub rest-ends : {t : List ℕ} {i v j w x u most : ℕ} {signed neg b : Bool} → Growing t i v signed neg j w → most ≡ limit signed neg →
-    x ≡ peeked t j → b ≡ goesOn x w most → b ≡ false → u ≡ byteOf neg w → u < 256 → RestOfDigits t i v signed neg (record { place = j; stuck = false; value = u })
-unfolding next growing whole ended
-rest-ends {t} {i} {v} {j} {w} {x} {u} {most} {signed} {neg} {b} g em e eb y eu lu =
-    record {
-      within = g .within;
-      onward = g .onward;
+      within = e .within;
+      onward = e .onward;
       small = lu;
-      on = λ s k r m n.
-          g .on s k r m ∙
-          from-same t j (num s ∷ k) k r (put s u r) (some neg w) none (g .within)
-          (λ o. rw (seen-byte t j e o, grow-end (canMinus s) neg x w (rw (m, ← em) (sym eb ∙ y)), eu))
-          (λ o. from-end t j (num s ∷ k) r (some neg w) o refl ∙ sym (from-end t j k (put s u r) none o n)) ∙
-          sym (at-free t (record { place = j; stuck = false; value = u }) k (put s u r) refl);
+      on = λ s k r m g.
+          reads-longest s k r neg g (drop i t) i v (n .place) (record { size = n .value; after = drop (n .place) t }) (rw (m, ← em) (e .whole))
+          (omega (arith, length-drop i t, length-drop (n .place) t, e .within, e .onward)) ∙
+          rw (← eu) (sym (at-free t (record { place = n .place; stuck = false; value = u }) k (put s u r) refl));
     }
 
 -- ---- a whole number

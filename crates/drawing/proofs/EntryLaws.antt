@@ -1,17 +1,16 @@
 -- The answers of the two calls in each of their cases, and the bytes that are left.
 use mathlib.Core.Path.{_≡_, refl, sym, ap, _∙_}
 use mathlib.Core.Bool.{Bool, true, false, not}
-use mathlib.Core.List.{List, [], _∷_, _++_, append-assoc}
+use mathlib.Core.List.{List, [], _∷_, _++_}
 use Prim.Native.Nat.{ℕ, _+_, _*_, _%_, _/_, _≤_, _<_}
 use native.Mathlib.Omega.{arith}
-use lib.Dec.{eqb}
 use lib.ListN.{length, take, drop, length-append}
 use lib.Seq.{take-at}
 use borrow.Author.Tests.{eq-eqb, ne-eqb, lt-ltb, le-ltb}
 use Rattle.fault.specs.declared.Verdict.{Verdict}
 use Rattle.fault.specs.declared.Answer.{Answer}
 use Rattle.fault.specs.Tests.{_below_, _differs_}
-use Rattle.fault.specs.Fault.{verdict, refused, nothingDone, _if_else_}
+use Rattle.fault.specs.Fault.{refused, nothingDone}
 use Rattle.fault.proofs.FaultLaws.{if-yes, if-no}
 use Rattle.pen.specs.Pen.{stored}
 use Rattle.pen.proofs.PenLaws.{stored-more, stored-length, stored-whole, stored-nothing}
@@ -22,7 +21,7 @@ use Rattle.table.proofs.TableLaws.{well-formed, counts-by, records-short}
 use Rattle.fault.specs.Bytes.{trailerBytes}
 use Rattle.dot.specs.Reading.{Gathered, Outcome, drawn, fault, reading}
 use Rattle.drawing.specs.declared.Reader.{Reader}
-use Rattle.drawing.specs.Entry.{twoBytes, trailerFor, tableOf, drawnFault, drawnTable, given, left, undrawAnswer, undrawBytes}
+use Rattle.drawing.specs.Entry.{trailerFor, tableOf, drawnFault, drawnTable, given, left, undrawAnswer, undrawBytes}
 use Rattle.drawing.specs.Lines.{Known, Finished}
 
 -- ---- bytes that are given

@@ -1,24 +1,20 @@
 -- Reading on from a place: one byte further, stuck there, at the text's end, and past a gap.
 use mathlib.Core.Path.{_≡_, refl, sym, ap, _∙_}
-use mathlib.Core.Bool.{Bool, true, false, not, true≢false}
-use mathlib.Core.List.{List, [], _∷_}
-use Prim.Native.Nat.{ℕ, zero, suc, _+_, _≤_, _<_}
+use mathlib.Core.Bool.{Bool, true, false, not}
+use mathlib.Core.List.{List, _∷_}
+use Prim.Native.Nat.{ℕ, suc, _+_, _≤_, _<_}
 use native.Mathlib.Omega.{arith}
 use native.Mathlib.Numerals.{add-one}
 use lib.Dec.{ltb}
-use lib.ListN.{length, getD, drop, drop-of-length-le}
+use lib.ListN.{length, drop, drop-of-length-le}
 use lib.Seq.{drop-cons}
-use borrow.Author.Tests.{ltb-true, ltb-false, lt-ltb, le-ltb, not-true, not-false}
+use borrow.Author.Tests.{ltb-true, ltb-false, not-true, not-false}
 use Rattle.fault.specs.Bytes.{byteAt}
-use Rattle.fault.specs.Fault.{_if_else_}
 use Rattle.dot.specs.Text.{isBlank}
-use Rattle.dot.specs.Plan.{Item, gap, num, one}
-use Rattle.dot.specs.Reading.{Num, none, Gathered, ByteStep, stuck, at, next, ended, Outcome, drawn, fault, later, onward, run}
-use Rattle.drawing.specs.Cursor.{shifted, from, peeked, Skipped}
-
-shifted-later : (i : ℕ) (o : Outcome) → shifted i (later o) ≡ shifted (i + 1) o
-shifted-later i (drawn r) = refl
-shifted-later i (fault p) = ap fault (omega arith)
+use Rattle.dot.specs.Plan.{Item, gap}
+use Rattle.dot.specs.Reading.{Num, none, Gathered, stuck, at, next, ended, drawn, fault, onward, run}
+use Rattle.dot.proofs.Digits.{shifted-later}
+use Rattle.drawing.specs.Cursor.{from, Skipped}
 
 -- a byte that may follow
 pub from-byte : (t : List ℕ) (i : ℕ) (k k′ : List Item) (r r′ : Gathered) (x x′ : Num) → i < length t →
@@ -88,32 +84,6 @@ pub gap-ends : {t : List ℕ} {i j : ℕ} → Passing t i j → length t ≤ j �
 gap-ends {t} {i} {j} p h = gap-left t i j p (λ o. absurd (omega arith))
 
 -- ---- the next byte
-pub peek-there : (t : List ℕ) (i : ℕ) {x : ℕ} → i < length t → x ≡ byteAt t i → x ≡ peeked t i
-unfolding peeked _if_else_
-peek-there t i h e = rw (lt-ltb i (length t) h) e
-
-pub peek-over : (t : List ℕ) (i : ℕ) → length t ≤ i → 256 ≡ peeked t i
-unfolding peeked _if_else_
-peek-over t i h = rw (le-ltb i (length t) h)
-
--- what was seen is a byte of the text
-pub record Seen (t : List ℕ) (i x : ℕ) : Type 0 where
-  pub there : i < length t
-  pub byte-is : byteAt t i ≡ x
-
--- a test that 256 fails is passed only by a byte of the text
-pub seen : (p : ℕ → Bool) (t : List ℕ) (i : ℕ) {x : ℕ} → p 256 ≡ false → x ≡ peeked t i → p x ≡ true → Seen t i x
-unfolding peeked _if_else_
-seen p t i {x} f e y = split (ltb i (length t)) refl
-  where
-    split : (b : Bool) → ltb i (length t) ≡ b → Seen t i x
-    split true h = record { there = ltb-true i (length t) h; byte-is = sym (rw h at e) }
-    split false h = let z : x ≡ 256 = rw h at e in absurd (true≢false (sym y ∙ ap p z ∙ f))
-
-pub seen-byte : (t : List ℕ) (i : ℕ) {x : ℕ} → x ≡ peeked t i → i < length t → byteAt t i ≡ x
-unfolding peeked _if_else_
-seen-byte t i e h = sym (rw (lt-ltb i (length t) h) at e)
-
 -- no byte may follow, nor the end
 pub from-not : (t : List ℕ) (i : ℕ) (k : List Item) (r : Gathered) (x : Num) → i ≤ length t →
     (i < length t → next k r x (byteAt t i) ≡ stuck) → ended k ≡ false → from t i k r x ≡ fault i

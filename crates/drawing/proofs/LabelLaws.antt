@@ -12,7 +12,7 @@ use Rattle.fault.specs.Fault.{_if_else_}
 use Rattle.table.specs.Table.{typeBytes}
 use Rattle.pen.specs.Pen.{stored}
 use Rattle.pen.proofs.PenLaws.{stored-more, stored-length}
-use Rattle.dot.specs.Numbers.{text}
+use Rattle.decimal.specs.Numbers.{text}
 use Rattle.dot.specs.Text.{joint}
 use Rattle.dot.specs.Plan.{Slot, Item, num, one, byte, plan, bytes, numbers}
 use Rattle.dot.specs.Reading.{canMinus, Gathered, put, ended}

@@ -15,14 +15,17 @@ use Rattle.fault.proofs.TestLaws.{or-none}
 use Rattle.table.specs.Table.{typeBytes, ruleBytes, stateBytes, endBytes}
 use Rattle.pen.specs.Pen.{stored}
 use Rattle.pen.proofs.PenLaws.{stored-more}
-use Rattle.dot.specs.Numbers.{text}
+use Rattle.decimal.specs.Numbers.{text}
+use Rattle.decimal.specs.Digits.{peeked}
+use Rattle.decimal.proofs.DigitLaws.{seen, seen-byte}
 use Rattle.dot.specs.Plan.{Item, gap, num, one, line, kind, types, factor, name, cell, plan, lines, header, named, label, stateLine, ruleLine, ending}
 use Rattle.dot.specs.Reading.{canMinus, none, Gathered, nothingRead, put, newState, newRule, nextState, ByteStep, stuck, at, turned, to, halt, take1, next, ended, Outcome, drawn, fault, run, reading}
+use Rattle.dot.proofs.Digits.{shifted-none}
 use Rattle.drawing.specs.declared.Cursor.{Cursor}
 use Rattle.drawing.specs.declared.Reader.{Reader}
-use Rattle.drawing.specs.Cursor.{shifted, from, reached, peeked, more, cellOf, labelThen, Skipped, Followed, Counted, Labelled}
+use Rattle.drawing.specs.Cursor.{from, reached, more, cellOf, labelThen, Skipped, Followed, Counted, Labelled}
 use Rattle.drawing.specs.Lines.{Known, onLines, onName, onState, onRule, onEnd, Arrow, Stood, Headed, Closed, Finished}
-use Rattle.drawing.proofs.FromLaws.{Seen, seen, seen-byte, from-byte, from-stuck, from-over, from-not, from-same, from-end}
+use Rattle.drawing.proofs.FromLaws.{from-byte, from-stuck, from-over, from-not, from-same, from-end}
 use Rattle.drawing.proofs.PlanLaws.{at-free, at-stuck, stands}
 
 -- ---- what is known
@@ -46,10 +49,6 @@ known-on k e =
     }
 
 -- ---- the header
-shifted-none : (o : Outcome) → o ≡ shifted 0 o
-shifted-none (drawn r) = refl
-shifted-none (fault p) = ap fault (omega arith)
-
 reading-from : (t : List ℕ) → reading t ≡ from t 0 header nothingRead none
 unfolding reading from
 reading-from t = shifted-none (run t header nothingRead none)

@@ -11,12 +11,14 @@ use lib.Seq.{drop-cons}
 use borrow.Author.Tests.{eqb-true, eqb-false, eq-eqb, ne-eqb}
 use Rattle.fault.specs.Bytes.{byteAt}
 use Rattle.fault.specs.Fault.{_if_else_}
+use Rattle.decimal.specs.Digits.{peeked}
+use Rattle.decimal.proofs.DigitLaws.{seen, seen-byte}
 use Rattle.dot.specs.Text.{isBlank}
 use Rattle.dot.specs.Plan.{Item, gap, num, one, byte, blank, item, plan}
 use Rattle.dot.specs.Reading.{Num, none, Gathered, ByteStep, stuck, at, to, halt, turned, take1, next, ended, fault}
 use Rattle.drawing.specs.declared.Cursor.{Cursor}
-use Rattle.drawing.specs.Cursor.{from, reached, peeked, asked, Skipped, Followed}
-use Rattle.drawing.proofs.FromLaws.{Seen, seen, seen-byte, from-byte, from-not}
+use Rattle.drawing.specs.Cursor.{from, reached, asked, Skipped, Followed}
+use Rattle.drawing.proofs.FromLaws.{from-byte, from-not}
 
 -- ---- cursors
 pub at-free : (t : List ℕ) (c : Cursor) (k : List Item) (r : Gathered) → c .stuck ≡ false → reached t c k r ≡ from t (c .place) k r none

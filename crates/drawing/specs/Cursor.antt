@@ -1,26 +1,20 @@
 -- Reading a text piece by piece: each piece of code says from where, and with what read, reading goes on to the same outcome.
 use mathlib.Core.Path.{_≡_}
-use mathlib.Core.Bool.{Bool, true, false, cond, not, _&&_}
+use mathlib.Core.Bool.{Bool, true, false, _&&_}
 use mathlib.Core.List.{List, [], _∷_, _++_}
-use Prim.Native.Nat.{ℕ, _+_, _-_, _*_, _≤_, _<_}
-use lib.Dec.{eqb, leb}
+use Prim.Native.Nat.{ℕ, _+_, _≤_, _<_}
+use lib.Dec.{eqb}
 use lib.ListN.{length, drop}
-use Rattle.fault.specs.Bytes.{byteAt}
-use Rattle.fault.specs.Tests.{_below_}
 use Rattle.fault.specs.Fault.{_if_else_}
+use Rattle.decimal.specs.Numbers.{text}
+use Rattle.decimal.specs.Digits.{peeked}
 use Rattle.pen.specs.Pen.{stored}
-use Rattle.dot.specs.Numbers.{text}
 use Rattle.dot.specs.Text.{isBlank, joint}
-use Rattle.dot.specs.Plan.{Slot, cell, coefficient, Item, gap, num, one, kind, plan, bytes, numbers, label, lines, header}
-use Rattle.dot.specs.Reading.{isDigit, canMinus, limit, byteOf, Num, none, minus, some, Gathered, put, ended, Outcome, drawn, fault, run, reading}
+use Rattle.dot.specs.Plan.{Slot, cell, coefficient, Item, gap, num, plan, bytes, numbers}
+use Rattle.dot.specs.Reading.{Num, none, some, begun, canMinus, Gathered, put, ended, Outcome, fault, shifted, run}
 use Rattle.drawing.specs.declared.Cursor.{Cursor}
-use Rattle.drawing.specs.declared.Reader.{Reader}
 
 -- ---- reading on
-abbrev pub shifted : ℕ → Outcome → Outcome
-shifted i (drawn r) = drawn r
-shifted i (fault p) = fault (i + p)
-
 -- the outcome from byte i on
 unfoldable pub from : List ℕ → ℕ → List Item → Gathered → Num → Outcome
 from t i k r x = shifted i (run (drop i t) k r x)
@@ -30,17 +24,9 @@ unfoldable pub reached : List ℕ → Cursor → List Item → Gathered → Outc
 reached t c k r = fault (c .place) if c .stuck else from t (c .place) k r none
 
 -- ---- bytes
--- the byte at i; past the end 256, which is no byte
-unfoldable pub peeked : List ℕ → ℕ → ℕ
-peeked t i = byteAt t i if i below length t else 256
-
 -- the byte x is what the code c of a quoted plan asks for, a gap aside
 unfoldable pub asked : ℕ → ℕ → Bool
 asked c x = isBlank x if eqb c 95 else eqb x c
-
--- the byte x goes on with a number of size v, to at most `most`
-unfoldable pub goesOn : ℕ → ℕ → ℕ → Bool
-goesOn x v most = isDigit x && not (eqb v 0) && leb (v * 10 + (x - 48)) most
 
 -- ---- pieces
 -- the blanks of a gap from i end before j
@@ -65,10 +51,6 @@ pub record Counted (t : List ℕ) (c : Cursor) (signed : Bool) (d : Cursor) : Ty
   pub small : d .value < 256
   pub on : (s : Slot) (k : List Item) (r : Gathered) → canMinus s ≡ signed → ended k ≡ false →
       reached t c (num s ∷ k) r ≡ reached t d k (put s (d .value) r)
-
--- what is read of a number before its digits
-abbrev pub begun : Bool → Num
-begun neg = cond neg minus none
 
 -- a number's digits are to come at i: after its minus, or where no minus stands
 pub record Begun (t : List ℕ) (i : ℕ) (signed neg : Bool) : Type 0 where

@@ -1,10 +1,11 @@
 -- What `draw` and `undraw` answer and leave, for every table, text and lent bytes (Q-1, "Refusals: 60 .. then 2, 4 to 8 .. then
 -- 61" and "The writer gives 1 to 8, then 61").
 use mathlib.Core.List.{List, [], _∷_, _++_}
-use Prim.Native.Nat.{ℕ, _+_, _*_, _/_, _%_}
+use Prim.Native.Nat.{ℕ, _+_, _*_}
 use lib.ListN.{length, drop}
 use Rattle.fault.specs.declared.Verdict.{Verdict}
 use Rattle.fault.specs.declared.Answer.{Answer}
+use Rattle.fault.specs.Bytes.{twoBytes}
 use Rattle.fault.specs.Tests.{_below_, _differs_}
 use Rattle.fault.specs.Fault.{verdict, refused, nothingDone, _if_else_}
 use Rattle.table.specs.Refusals.{countsOutside, tableFault}
@@ -13,10 +14,6 @@ use Rattle.dot.specs.Text.{drawingOf}
 use Rattle.dot.specs.Reading.{Gathered, Outcome, drawn, fault, reading}
 
 -- ---- the table that a text draws
--- a number of two bytes, the low one first
-abbrev pub twoBytes : ℕ → List ℕ → List ℕ
-twoBytes x w = x % 256 ∷ x / 256 ∷ w
-
 -- distances to the first state and the first rule, states, rules, types, factor
 unfoldable pub trailerFor : ℕ → ℕ → ℕ → ℕ → List ℕ
 trailerFor n m T k = twoBytes (recordsBytes n m T) (twoBytes (m * ruleBytes T) (n ∷ m ∷ T ∷ k ∷ []))

@@ -1,6 +1,6 @@
 // Drawings of a table: written from its bytes, and read back to them.
 ghost use mathlib.Core.Path.{_≡_};
-ghost use Prim.Native.Nat.{_/_, _%_, _≤_, _<_};
+ghost use Prim.Native.Nat.{_≤_};
 ghost use lib.ListN.{length};
 ghost use Rattle.pen.specs.Pen.{stored};
 ghost use Rattle.table.specs.Table.{mostRecords, mostTable};
@@ -84,29 +84,16 @@ fn close(g: Reader, table: &mut [u8])
     let rules = fault::times(g.rules, table::END_BYTES + table::TYPE_BYTES * g.types);
     let all = table::STATE_BYTES * g.states + rules;
     let trailer = [
-        low(all),
-        high(all),
-        low(rules),
-        high(rules),
-        low(g.states),
-        low(g.rules),
-        low(g.types),
-        low(g.factor),
+        fault::low(all),
+        fault::high(all),
+        fault::low(rules),
+        fault::high(rules),
+        fault::low(g.states),
+        fault::low(g.rules),
+        fault::low(g.types),
+        fault::low(g.factor),
     ];
     pen::put_all(table, g.made, &trailer);
-}
-
-fn low(x: usize) -> u8
-    ensures { λ r. ⌜ r ≡ x % 256 ⌝ }
-{
-    (x % 256) as u8
-}
-
-fn high(x: usize) -> u8
-    requires { ⌜ x < 65536 ⌝ }
-    ensures { λ r. ⌜ r ≡ x / 256 ⌝ }
-{
-    (x / 256) as u8
 }
 
 // The table into the lent bytes, if it is one and has room there.

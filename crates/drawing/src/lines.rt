@@ -53,7 +53,7 @@ fn line(text: &[u8], g: Reader, out: &mut [u8]) -> Reader
     ensures { λ h. ⌜ Stood (now (text .entry)) (g .place) h (now (out .exit)) ⌝ }
 {
     let at = pieces::skip(text, g.place);
-    if pieces::peek(text, at) == 125 {
+    if decimal::peek(text, at) == 125 {
         return end(text, g, at + 1);
     }
     let s = pieces::follow(text, pieces::stand(at), b"s");
@@ -107,7 +107,7 @@ fn named(text: &[u8], g: Reader, i: usize, v: usize, out: &mut [u8]) -> Reader
     requires { ⌜ (i ≤ length (now text)) × (g .place + 1 ≤ i) × (v < 256) × (Known (now text) g (now out) (onName (now text) i v)) ⌝ }
     ensures { λ h. ⌜ Stood (now (text .entry)) (g .place) h (now (out .exit)) ⌝ }
 {
-    let x = pieces::peek(text, i);
+    let x = decimal::peek(text, i);
     if (x == 91) & ((v == g.states) & (g.rules == 0)) {
         return state_line(text, g, i + 1, v, out);
     }

@@ -5,13 +5,14 @@ ghost use mathlib.Core.List.{[], _∷_};
 ghost use Prim.Native.Nat.{_+_, _*_, _≤_, _<_};
 ghost use lib.Dec.{eqb};
 ghost use lib.ListN.{length};
+ghost use Rattle.decimal.specs.Digits.{isDigit};
 ghost use Rattle.table.specs.Table.{typeBytes};
 ghost use Rattle.pen.specs.Pen.{stored, places};
 ghost use Rattle.dot.specs.Text.{isBlank};
 ghost use Rattle.dot.specs.Text as texts;
 ghost use Rattle.dot.specs.Plan as plans;
-ghost use Rattle.dot.specs.Reading.{isDigit, limit, byteOf};
-ghost use Rattle.drawing.specs.Cursor.{peeked, asked, goesOn, cellOf, Begun, Skipped, Followed, Counted, Digits, RestOfDigits, labelThen, Numbered, Labelled};
+ghost use Rattle.dot.specs.Reading.{limit, byteOf};
+ghost use Rattle.drawing.specs.Cursor.{asked, cellOf, Begun, Skipped, Followed, Counted, Digits, RestOfDigits, labelThen, Numbered, Labelled};
 use crate::Cursor;
 
 // At a place, free to go on.
@@ -36,17 +37,7 @@ pub fn stuck_at(place: usize) -> Cursor
     }
 }
 
-// ---- bytes
-// The byte at i; past the end 256, which is no byte.
-pub fn peek(text: &[u8], i: usize) -> usize
-    ensures { λ x. ⌜ (x ≡ peeked (now (text .entry)) i) × (x ≤ 256) ⌝ }
-{
-    if i < text.len() {
-        return fault::byte_at(text, i);
-    }
-    256
-}
-
+// ---- plans
 // Space, tab, line feed, carriage return.
 fn is_blank(c: usize) -> bool
     ensures { λ r. ⌜ r ≡ isBlank c ⌝ }
@@ -54,13 +45,6 @@ fn is_blank(c: usize) -> bool
     (c == 32) | (c == 9) | (c == 10) | (c == 13)
 }
 
-fn is_digit(c: usize) -> bool
-    ensures { λ r. ⌜ r ≡ isDigit c ⌝ }
-{
-    (48 <= c) & (c <= 57)
-}
-
-// ---- plans
 // The place after the blanks from i on.
 pub fn skip(text: &[u8], i: usize) -> usize
     requires { ⌜ i ≤ length (now text) ⌝ }
@@ -104,7 +88,7 @@ fn item(text: &[u8], c: Cursor, code: usize) -> Cursor
     if code == 126 {
         return stand(skip(text, at));
     }
-    if asks(code, peek(text, at)) {
+    if asks(code, decimal::peek(text, at)) {
         return stand(at + 1);
     }
     stuck_at(at)
@@ -130,7 +114,7 @@ pub fn number(text: &[u8], c: Cursor, signed: bool) -> Cursor
     if c.stuck {
         return stuck_at(at);
     }
-    if signed & (peek(text, at) == 45) {
+    if signed & (decimal::peek(text, at) == 45) {
         return digits(text, at + 1, signed, true);
     }
     digits(text, at, signed, false)
@@ -141,7 +125,7 @@ fn digits(text: &[u8], i: usize, signed: bool, negative: bool) -> Cursor
     requires { ⌜ (i ≤ length (now text)) × (Begun (now text) i signed negative) ⌝ }
     ensures { λ d. ⌜ Digits (now (text .entry)) i signed negative d ⌝ }
 {
-    let x = peek(text, i);
+    let x = decimal::peek(text, i);
     if begins(x, negative) {
         return rest(text, i + 1, x - 48, signed, negative);
     }
@@ -152,7 +136,7 @@ fn digits(text: &[u8], i: usize, signed: bool, negative: bool) -> Cursor
 fn begins(x: usize, negative: bool) -> bool
     ensures { λ r. ⌜ r ≡ (isDigit x && not (negative && eqb x 48)) ⌝ }
 {
-    is_digit(x) & !(negative & (x == 48))
+    decimal::is_digit(x) & !(negative & (x == 48))
 }
 
 // The digits after the first, so far as the number stays in its range.
@@ -160,17 +144,11 @@ fn rest(text: &[u8], i: usize, v: usize, signed: bool, negative: bool) -> Cursor
     requires { ⌜ (i ≤ length (now text)) × (v < 10) × (negative ≡ true → 1 ≤ v) ⌝ }
     ensures { λ d. ⌜ RestOfDigits (now (text .entry)) i v signed negative d ⌝ }
 {
-    let most = largest(signed, negative);
-    let mut j = i;
-    let mut w = v;
-    while grows(peek(text, j), w, most) {
-        w = w * 10 + (peek(text, j) - 48);
-        j += 1;
-    }
+    let n = decimal::rest(text, i, v, largest(signed, negative));
     Cursor {
-        place: j,
+        place: n.place,
         stuck: false,
-        value: byte_of(negative, w),
+        value: byte_of(negative, n.value),
     }
 }
 
@@ -185,17 +163,6 @@ fn largest(signed: bool, negative: bool) -> usize
         return 128;
     }
     127
-}
-
-// Is x a digit with which the number stays in its range? 0 goes on with none.
-fn grows(x: usize, v: usize, most: usize) -> bool
-    requires { ⌜ (v ≤ 255) × (x ≤ 256) ⌝ }
-    ensures { λ r. ⌜ r ≡ goesOn x v most ⌝ }
-{
-    if is_digit(x) {
-        return (v != 0) & (v * 10 + (x - 48) <= most);
-    }
-    false
 }
 
 // The byte of a whole number.

@@ -3,10 +3,10 @@
 use mathlib.Core.Path.{_≡_, refl, sym, ap, ap₂, _∙_, subst⁻¹}
 use mathlib.Core.List.{List, [], _∷_, _++_}
 use Prim.Native.Nat.{ℕ, zero, suc, _+_, _*_, _≤_, _<_}
-use native.Mathlib.Decide.{ℕ-discrete, decLt}
+use native.Mathlib.Decide.{decLt}
 use native.Mathlib.Omega.{arith}
 use lib.ListN.{length, getD, set, take, drop, replicate, length-replicate, replicate-append-replicate}
-use lib.Seq.{getD-set-same, getD-set-other, length-front, length-take-le, drop-at}
+use lib.Seq.{length-front, length-take-le, drop-at}
 use borrow.Author.Tests.{eq-eqb, ne-eqb}
 use Rattle.fault.specs.declared.Answer.{Answer}
 use Rattle.fault.specs.Fault.{_if_else_}
@@ -28,13 +28,6 @@ use Rattle.step.specs.Step.{leftBy}
 use Rattle.engine.specs.Entry.{ranAnswer}
 
 -- ---- the first configuration
-pub fills : (w t : List ℕ) (i r : ℕ) → i < length w → ((j : ℕ) → j < i → getD w j 0 ≡ getD t j 0) → r ≡ getD t i 0 → (j : ℕ) → j < i + 1 → getD (set w i r) j 0 ≡ getD t j 0
-fills w t i r l f e j h = go (ℕ-discrete j i)
-  where
-    go : Dec (j ≡ i) → getD (set w i r) j 0 ≡ getD t j 0
-    go (yes z) = rw (z, getD-set-same) e
-    go (no z) = getD-set-other w i j r 0 z ∙ f j (omega arith)
-
 -- the starts below i, in front of the words as they were
 module _ (w t : List ℕ) where
   pub placed-long : (i : ℕ) → i ≤ length t → i ≤ length w → length (take i t ++ drop i w) ≡ length w

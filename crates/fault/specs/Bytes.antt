@@ -1,6 +1,6 @@
 -- Bytes and little-endian numbers of a part, and where its trailer stands (outline, "Bundle layout").
-use Prim.Native.Nat.{ℕ, _+_, _-_, _*_}
-use mathlib.Core.List.{List}
+use Prim.Native.Nat.{ℕ, _+_, _-_, _*_, _/_, _%_}
+use mathlib.Core.List.{List, _∷_}
 use lib.ListN.{length, getD}
 
 abbrev pub byteAt : List ℕ → ℕ → ℕ
@@ -8,6 +8,10 @@ byteAt s i = getD s i 0
 
 abbrev pub u16At : List ℕ → ℕ → ℕ
 u16At s i = byteAt s i + 256 * byteAt s (i + 1)
+
+-- a number of two bytes, the low one first, before w
+abbrev pub twoBytes : ℕ → List ℕ → List ℕ
+twoBytes x w = x % 256 ∷ x / 256 ∷ w
 
 -- a trailer is the last bytes of its part
 abbrev pub trailerBytes : ℕ

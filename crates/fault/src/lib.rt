@@ -1,6 +1,6 @@
 // What every reading stage says and reads: verdicts, bytes and little-endian numbers.
 ghost use mathlib.Core.Path.{_≡_};
-ghost use Prim.Native.Nat.{_+_, _-_, _*_, _≤_, _<_};
+ghost use Prim.Native.Nat.{_+_, _-_, _*_, _/_, _%_, _≤_, _<_};
 ghost use lib.ListN.{length};
 ghost use Rattle.fault.specs.Bytes.{byteAt, u16At, trailerBytes, trailerOf};
 ghost use Rattle.fault.specs.Tests as tests;
@@ -69,6 +69,42 @@ fn as_number(x: u8) -> usize
     x as usize
 }
 
+// The little-endian number at bytes i and i + 1.
+pub fn u16_at(s: &[u8], i: usize) -> usize
+    requires { ⌜ i + 1 < length (now s) ⌝ }
+    ensures { λ r. ⌜ (r ≡ u16At (now (s .entry)) i) × (r < 65536) ⌝ }
+    ensures { λ r. ⌜ (byteAt (now (s .entry)) i < 256) × (byteAt (now (s .entry)) (i + 1) < 256) ⌝ }
+{
+    byte_at(s, i) + 256 * byte_at(s, i + 1)
+}
+
+// The low and the high byte of a number of two.
+pub fn low(x: usize) -> u8
+    ensures { λ r. ⌜ r ≡ x % 256 ⌝ }
+{
+    (x % 256) as u8
+}
+
+pub fn high(x: usize) -> u8
+    requires { ⌜ x < 65536 ⌝ }
+    ensures { λ r. ⌜ r ≡ x / 256 ⌝ }
+{
+    (x / 256) as u8
+}
+
+// All bytes of `from`, in their places.
+pub fn copy(from: &[u8], to: &mut [u8])
+    requires { ⌜ length (now to) ≡ length (now from) ⌝ }
+    ensures { λ r. ⌜ now (to .exit) ≡ now (from .entry) ⌝ }
+{
+    let n = from.len();
+    let mut i = 0;
+    while i < n {
+        to[i] = from[i];
+        i += 1;
+    }
+}
+
 // Byte k of the trailer.
 pub fn trailer_byte(s: &[u8], k: usize) -> usize
     requires { ⌜ (trailerBytes ≤ length (now s)) × (k < trailerBytes) ⌝ }
@@ -82,6 +118,5 @@ pub fn trailer_u16(s: &[u8], k: usize) -> usize
     requires { ⌜ (trailerBytes ≤ length (now s)) × (k + 1 < trailerBytes) ⌝ }
     ensures { λ r. ⌜ (r ≡ u16At (now (s .entry)) (trailerOf (now (s .entry)) + k)) × (r < 65536) ⌝ }
 {
-    let at = s.len() - TRAILER_BYTES + k;
-    byte_at(s, at) + 256 * byte_at(s, at + 1)
+    u16_at(s, s.len() - TRAILER_BYTES + k)
 }

@@ -11,7 +11,7 @@ use Rattle.fault.specs.Fault.{_if_else_}
 use Rattle.table.specs.Table.{statesOf, rulesOf, typesOf, factorOf, typeBytes, ruleBytes, mostTypes, stateBytes, endBytes}
 use Rattle.table.specs.Facts.{Sized}
 use Rattle.pen.specs.Pen.{mostHeadText, mostStateText, mostRuleText, mostDrawing}
-use Rattle.dot.specs.Numbers.{text, decimal, signed}
+use Rattle.decimal.specs.Numbers.{text, decimal, signed}
 use Rattle.dot.specs.Text.{Piece, written, chars, after, tight, aBlank, newLine, headText, joint, numbersText, labelText, stateText, ruleText, statesText, rulesText, endText, tableText, drawingOf}
 
 pub chars-long : (w : List ℕ) (p : List Piece) → length (written (chars w p)) ≡ length w + length (written p)

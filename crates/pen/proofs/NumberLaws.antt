@@ -3,29 +3,25 @@ use Prim.Native.Nat.{ℕ, _+_, _-_, _/_, _%_, _≤_, _<_}
 use mathlib.Core.Path.{_≡_}
 use mathlib.Core.Bool.{Bool, true, false}
 use mathlib.Core.List.{List, [], _∷_}
-use native.Mathlib.Omega.{arith}
 use borrow.Author.Tests.{lt-ltb, le-ltb, eq-eqb, ne-eqb}
 use Rattle.fault.specs.Fault.{_if_else_}
+use Rattle.decimal.specs.Numbers.{text, decimal, signed, spelling}
+use Rattle.decimal.proofs.NumberLaws.{one-digit, two-digits, three-digits}
 use Rattle.table.specs.Table.{typeBytes}
-use Rattle.dot.specs.Numbers.{text, decimal, signed, spelling}
 use Rattle.dot.specs.Text.{joint}
 use Rattle.pen.specs.Pen.{stored, Put}
 use Rattle.pen.proofs.PenLaws.{put-none, put-byte, put-then}
 
 -- ---- digits
 pub put-one-digit : {out end : List ℕ} {n v b r : ℕ} → v < 10 → b ≡ 48 + v → r ≡ n + 1 → end ≡ stored out n (b ∷ []) → Put out n (decimal v) r end
-unfolding decimal _if_else_
-put-one-digit {v = v} h e f g = rw (lt-ltb v 10 h, ← e) (put-byte f g)
+put-one-digit {v = v} h e f g = rw (one-digit v h, ← e) (put-byte f g)
 
 pub put-two-digits : {out mid end : List ℕ} {n m v a b r : ℕ} → 10 ≤ v → v < 100 → a ≡ 48 + v / 10 → b ≡ 48 + v % 10 → m ≡ n + 1 → mid ≡ stored out n (a ∷ []) → r ≡ m + 1 → end ≡ stored mid m (b ∷ []) → Put out n (decimal v) r end
-unfolding decimal _if_else_
-put-two-digits {v = v} k h e e′ f g f′ g′ = rw (le-ltb v 10 k, lt-ltb v 100 h, ← e, ← e′) (put-then (put-byte f g) (put-byte f′ g′))
+put-two-digits {v = v} k h e e′ f g f′ g′ = rw (two-digits v k h, ← e, ← e′) (put-then (put-byte f g) (put-byte f′ g′))
 
 pub put-three-digits : {out mid next end : List ℕ} {n m l v a b d r : ℕ} → 100 ≤ v → a ≡ 48 + v / 100 → b ≡ 48 + v / 10 % 10 → d ≡ 48 + v % 10 → m ≡ n + 1 → mid ≡ stored out n (a ∷ []) → l ≡ m + 1 → next ≡ stored mid m (b ∷ []) → r ≡ l + 1 → end ≡ stored next l (d ∷ []) → Put out n (decimal v) r end
-unfolding decimal _if_else_
 put-three-digits {v = v} h e e′ e″ f g f′ g′ f″ g″ =
-    let k : 10 ≤ v = omega arith in
-    rw (le-ltb v 10 k, le-ltb v 100 h, ← e, ← e′, ← e″) (put-then (put-byte f g) (put-then (put-byte f′ g′) (put-byte f″ g″)))
+    rw (three-digits v h, ← e, ← e′, ← e″) (put-then (put-byte f g) (put-then (put-byte f′ g′) (put-byte f″ g″)))
 
 -- ---- sign
 pub signed-plain : {out end : List ℕ} {n b r : ℕ} → b < 128 → Put out n (decimal b) r end → Put out n (signed b) r end

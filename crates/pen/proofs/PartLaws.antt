@@ -6,7 +6,7 @@ use native.Mathlib.Omega.{arith}
 use lib.ListN.{length}
 use Rattle.fault.specs.Bytes.{byteAt}
 use Rattle.table.specs.Table.{statesOf, rulesOf, typesOf, factorOf, ruleAt, fromOf, toOf, typeBytes, stateBytes, endBytes}
-use Rattle.dot.specs.Numbers.{text, decimal, signed}
+use Rattle.decimal.specs.Numbers.{text, decimal, signed}
 use Rattle.dot.specs.Text.{headText, joint, numbersText, stateText, ruleText, statesText, rulesText, drawingOf}
 use Rattle.pen.specs.Pen.{stored, Put, alone, labelled}
 use Rattle.pen.proofs.PenLaws.{RestPut, put-then, put-as, rest-less, rest-none}

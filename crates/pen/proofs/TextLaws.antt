@@ -6,7 +6,7 @@ use native.Mathlib.Nat.{add-mul, one-mul}
 use native.Mathlib.Omega.{arith}
 use Rattle.fault.specs.Bytes.{byteAt}
 use Rattle.table.specs.Table.{statesOf, rulesOf, typesOf, factorOf, ruleSize, ruleAt, typeBytes, ruleBytes, stateBytes, endBytes}
-use Rattle.dot.specs.Numbers.{text, decimal, signed}
+use Rattle.decimal.specs.Numbers.{text, decimal, signed}
 use Rattle.dot.specs.Text.{Piece, char, space, must, written, chars, after, tight, aBlank, newLine, headText, joint, numbersText, labelText, stateText, ruleText, statesText, rulesText, tableText, drawingOf}
 use Rattle.pen.specs.Pen.{alone, labelled}
 

@@ -6,7 +6,7 @@ use lib.ListN.{length, set}
 use Rattle.fault.specs.Tests.{_below_}
 use Rattle.fault.specs.Fault.{_if_else_}
 use Rattle.table.specs.Table.{mostStates, mostRules}
-use Rattle.dot.specs.Numbers.{text}
+use Rattle.decimal.specs.Numbers.{text}
 use Rattle.dot.specs.Text.{Piece, written, after, aBlank, labelText}
 
 -- a place is below 2^64 - 1, so that the next one never wraps

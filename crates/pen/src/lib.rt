@@ -5,8 +5,8 @@ ghost use Prim.Native.Nat.{_+_, _*_, _≤_, _<_};
 ghost use lib.ListN.{length};
 ghost use Rattle.table.specs.Table.{statesOf, rulesOf, typesOf, factorOf, ruleAt, stateBytes};
 ghost use Rattle.table.specs.Facts.{Sized};
-ghost use Rattle.dot.specs.Numbers.{decimal, spelling};
-ghost use Rattle.dot.specs.Numbers as numbers;
+ghost use Rattle.decimal.specs.Numbers.{decimal, spelling};
+ghost use Rattle.decimal.specs.Numbers as numbers;
 ghost use Rattle.dot.specs.Text.{headText, joint, numbersText, stateText, ruleText, statesText, rulesText, drawingOf};
 ghost use Rattle.pen.specs.Pen.{places, stored, Put, alone, labelled, mostHeadText, mostStateText, mostRuleText, mostStatesText, mostRulesText, mostDrawing};
 

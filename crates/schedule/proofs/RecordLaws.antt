@@ -1,14 +1,18 @@
 -- A schedule's records, rewritten one after the other in place: the first i are the new ones.
 use mathlib.Core.Path.{_≡_, refl, sym, ap, ap₂, _∙_}
+use mathlib.Core.Bool.{Bool, true, false}
 use mathlib.Core.List.{List, [], _∷_, _++_, append-nil}
 use Prim.Native.Nat.{ℕ, zero, suc, _+_, _*_, _/_, _≤_, _<_}
 use native.Mathlib.Nat.{not-suc-le-zero, le-of-suc-le-suc}
 use native.Mathlib.Numerals.{add-one}
 use native.Mathlib.Omega.{arith}
-use lib.ListN.{length, getD, set, take, drop, length-set, drop-of-length-le}
-use lib.Seq.{take-suc, drop-cons, append-snoc, set-at, getD-at, length-take-le, take-all}
+use lib.Dec.{ltb}
+use lib.ListN.{length, getD, set, take, drop, length-set, length-drop, drop-of-length-le}
+use lib.Seq.{take-suc, drop-cons, drop-drop, append-snoc, set-at, getD-at, getD-drop, length-take-le, take-all}
+use borrow.Author.Tests.{ltb-true, ltb-false, lt-ltb, le-ltb}
+use Rattle.fault.specs.Fault.{_if_else_}
 use Rattle.paper.specs.Paper.{Step}
-use Rattle.schedule.specs.Records.{stepsIn, recordAt, bytesOf, Records}
+use Rattle.schedule.specs.Records.{stepsIn, recordAt, withRecord, putRecord, putFrom, bytesOf, Records}
 use Rattle.paper.specs.Run.{noStep, stepAt}
 use Rattle.agree.specs.Translation.{withSource}
 
@@ -62,6 +66,9 @@ length-bytes (s ∷ ss) = omega (arith, length-bytes ss)
 pub bytes-again : (steps : List ℕ) → Records steps → bytesOf (stepsIn steps) ≡ steps
 bytes-again steps R = bytes-steps (length steps / 4) steps (R .whole)
 
+pub length-record : (bytes : List ℕ) (i : ℕ) (s : Step) → length (withRecord bytes i s) ≡ length bytes
+length-record bytes i s = rw (length-set, length-set, length-set, length-set)
+
 -- as many other steps have as many bytes
 pub bytes-many : (steps : List ℕ) (ss : List Step) → Records steps → length ss ≡ length (stepsIn steps) → length (bytesOf ss) ≡ length steps
 bytes-many steps ss R h = length-bytes ss ∙ ap (λ (n : ℕ). n * 4) (h ∙ length-steps (length steps / 4) steps (R .whole)) ∙ sym (R .whole)
@@ -81,6 +88,22 @@ steps-set (suc n) (a ∷ b ∷ c ∷ e ∷ bs) zero x h l = refl
 steps-set (suc n) (a ∷ b ∷ c ∷ e ∷ bs) (suc i) x h l =
     let q : suc i * 4 + 3 ≡ suc (suc (suc (suc (i * 4 + 3)))) = omega arith in
     rw q (ap (λ (ss : List Step). record { board = a; rule = b; type = c; source = e } ∷ ss) (steps-set n bs i x (omega arith) (le-of-suc-le-suc l)))
+
+-- another step as record i
+pub steps-put : (n : ℕ) (bs : List ℕ) (i : ℕ) (s : Step) → length bs ≡ n * 4 → i < n → stepsIn (withRecord bs i s) ≡ set (stepsIn bs) i s
+unfolding stepsIn
+steps-put n [] i s h l = absurd (omega arith)
+steps-put n (a ∷ []) i s h l = absurd (omega arith)
+steps-put n (a ∷ b ∷ []) i s h l = absurd (omega arith)
+steps-put n (a ∷ b ∷ c ∷ []) i s h l = absurd (omega arith)
+steps-put zero (a ∷ b ∷ c ∷ e ∷ bs) i s h l = absurd (not-suc-le-zero l)
+steps-put (suc n) (a ∷ b ∷ c ∷ e ∷ bs) zero s h l = refl
+steps-put (suc n) (a ∷ b ∷ c ∷ e ∷ bs) (suc i) s h l =
+    let e₀ : suc i * 4 ≡ suc (suc (suc (suc (i * 4)))) = omega arith in
+    let e₁ : suc i * 4 + 1 ≡ suc (suc (suc (suc (i * 4 + 1)))) = omega arith in
+    let e₂ : suc i * 4 + 2 ≡ suc (suc (suc (suc (i * 4 + 2)))) = omega arith in
+    let e₃ : suc i * 4 + 3 ≡ suc (suc (suc (suc (i * 4 + 3)))) = omega arith in
+    rw (e₁, e₂, e₃, e₀) (ap (λ (ss : List Step). record { board = a; rule = b; type = c; source = e } ∷ ss) (steps-put n bs i s (omega arith) (le-of-suc-le-suc l)))
 
 -- ---- the loop: of the n records of the bytes, the first i are those of new, and the others still those of old
 pub record Partly (n : ℕ) (old new : List Step) (i : ℕ) (bytes : List ℕ) : Type 0 where
@@ -123,7 +146,46 @@ module _ (n : ℕ) (old new : List Step) (o : length old ≡ n) (e : length new 
           ∙ ap (set (both i) i) q ∙ both-more i h;
     }
 
-    pub partly-all : i ≤ n → n ≤ i → bytes ≡ bytesOf new
-    partly-all a b =
+    -- and so does the new step, put in whole
+    pub partly-put : (s : Step) → i < n → s ≡ stepAt new i → Partly n old new (i + 1) (withRecord bytes i s)
+    partly-put s h q = record {
+      long = length-record bytes i s ∙ P .long;
+      holds = steps-put n bytes i s (P .long) h ∙ ap₂ (λ (ss : List Step) (x : Step). set ss i x) (P .holds) q ∙ both-more i h;
+    }
+
+    pub partly-all : n ≤ i → bytes ≡ bytesOf new
+    partly-all b =
         let k : length old ≤ i = omega arith in
         sym (bytes-steps n bytes (P .long)) ∙ ap bytesOf (P .holds ∙ ap₂ (λ (x y : List Step). x ++ y) (take-all i new (omega arith)) (drop-of-length-le old k) ∙ append-nil new)
+
+-- ---- steps put one after the other
+pub put-fits : (bytes : List ℕ) (i : ℕ) (s : Step) → i * 4 + 3 < length bytes → putRecord bytes i s ≡ withRecord bytes i s
+unfolding putRecord _if_else_
+put-fits bytes i s h = rw (lt-ltb (i * 4 + 3) (length bytes) h)
+
+pub put-not : (bytes : List ℕ) (i : ℕ) (s : Step) → length bytes ≤ i * 4 + 3 → putRecord bytes i s ≡ bytes
+unfolding putRecord _if_else_
+put-not bytes i s h = rw (le-ltb (i * 4 + 3) (length bytes) h)
+
+pub put-length : (bytes : List ℕ) (i : ℕ) (s : Step) → length (putRecord bytes i s) ≡ length bytes
+put-length bytes i s = split (ltb (i * 4 + 3) (length bytes)) refl
+  where
+    split : (b : Bool) → ltb (i * 4 + 3) (length bytes) ≡ b → length (putRecord bytes i s) ≡ length bytes
+    split true h = ap length (put-fits bytes i s (ltb-true _ _ h)) ∙ length-record bytes i s
+    split false h = ap length (put-not bytes i s (ltb-false _ _ h))
+
+-- as many as there are, into as many bytes, are those of the schedule
+put-rest : (n : ℕ) (old new ss : List Step) (i : ℕ) (bytes : List ℕ) → length old ≡ n → length new ≡ n → Partly n old new i bytes → drop i new ≡ ss → putFrom i ss bytes ≡ bytesOf new
+unfolding putFrom
+put-rest n old new [] i bytes o e P d =
+    let l : n ≤ i = omega (arith, e, length-drop i new, ap length d) in
+    partly-all n old new o e P l
+put-rest n old new (s ∷ ss) i bytes o e P d =
+    let l : i < n = omega (arith, e, length-drop i new, ap length d) in
+    let z : i + 0 ≡ i = omega arith in
+    let q : s ≡ stepAt new i = sym (ap (λ (x : List Step). getD x 0 noStep) d) ∙ getD-drop i new 0 noStep ∙ ap (stepAt new) z in
+    let r : drop (i + 1) new ≡ ss = sym (drop-drop 1 i new) ∙ ap (drop 1) d in
+    ap (putFrom (i + 1) ss) (put-fits bytes i s (omega (arith, l, P .long))) ∙ put-rest n old new ss (i + 1) (withRecord bytes i s) o e (partly-put n old new o e P s l q) r
+
+pub put-all : (ss : List Step) (bytes : List ℕ) → length bytes ≡ length ss * 4 → putFrom 0 ss bytes ≡ bytesOf ss
+put-all ss bytes h = put-rest (length ss) (stepsIn bytes) ss ss 0 bytes (length-steps (length ss) bytes h) refl (record { long = h; holds = refl }) refl

@@ -2,8 +2,10 @@
 use mathlib.Core.Path.{_≡_}
 use mathlib.Core.List.{List, [], _∷_}
 use Prim.Native.Nat.{ℕ, _+_, _*_, _/_, _≤_}
-use lib.ListN.{length}
+use lib.ListN.{length, set}
 use Rattle.fault.specs.Bytes.{byteAt, stepBytes, mostStepBytes}
+use Rattle.fault.specs.Tests.{_below_}
+use Rattle.fault.specs.Fault.{_if_else_}
 use Rattle.paper.specs.Paper.{Step}
 use Rattle.schedule.specs.declared.Step as declared
 
@@ -27,6 +29,19 @@ stepsIn (p ∷ r ∷ m ∷ q ∷ bytes) = record { board = p; rule = r; type = m
 unfoldable pub bytesOf : List Step → List ℕ
 bytesOf [] = []
 bytesOf (s ∷ ss) = s .board ∷ s .rule ∷ s .type ∷ s .source ∷ bytesOf ss
+
+-- the step bytes with the step s as record i
+abbrev pub withRecord : List ℕ → ℕ → Step → List ℕ
+withRecord bytes i s = set (set (set (set bytes (i * 4) (s .board)) (i * 4 + 1) (s .rule)) (i * 4 + 2) (s .type)) (i * 4 + 3) (s .source)
+
+-- the same, if it fits
+unfoldable pub putRecord : List ℕ → ℕ → Step → List ℕ
+putRecord bytes i s = withRecord bytes i s if i * 4 + 3 below length bytes else bytes
+
+-- steps put one after the other from record i on, so far as they fit
+unfoldable pub putFrom : ℕ → List Step → List ℕ → List ℕ
+putFrom i [] bytes = bytes
+putFrom i (s ∷ ss) bytes = putFrom (i + 1) ss (putRecord bytes i s)
 
 -- the step bytes are whole records, and no more than a schedule has
 pub record Records (steps : List ℕ) : Type 0 where

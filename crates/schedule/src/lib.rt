@@ -1,10 +1,10 @@
 // A step of a schedule by value, and its record of 4 bytes: board, rule, type, source.
 ghost use mathlib.Core.Path.{_≡_};
-ghost use Prim.Native.Nat.{_+_, _*_, _<_};
+ghost use Prim.Native.Nat.{_+_, _*_, _≤_, _<_};
 ghost use lib.ListN.{length, set};
 ghost use Rattle.fault.specs.Bytes.{mostSteps};
 ghost use Rattle.paper.specs.Paper as paper;
-ghost use Rattle.schedule.specs.Records.{meant, recordAt};
+ghost use Rattle.schedule.specs.Records.{meant, recordAt, putRecord};
 
 // What a record names; `type` is a word of the language.
 pub struct Step {
@@ -41,4 +41,18 @@ pub fn silent(x: Step) -> bool
     ensures { λ b. ⌜ b ≡ paper.silent (meant x) ⌝ }
 {
     (x.mtype == 255) & (x.source == 255)
+}
+
+// Record i is that of a step, if it fits.
+pub fn put_step(steps: &mut [u8], i: usize, x: Step)
+    requires { ⌜ (i < mostSteps) × (x .board ≤ 255) × (x .rule ≤ 255) × (x .mtype ≤ 255) × (x .source ≤ 255) ⌝ }
+    ensures { λ r. ⌜ now (steps .exit) ≡ putRecord (now (steps .entry)) i (meant x) ⌝ }
+{
+    let at = i * 4;
+    if at + 3 < steps.len() {
+        steps[at] = x.board as u8;
+        steps[at + 1] = x.rule as u8;
+        steps[at + 2] = x.mtype as u8;
+        steps[at + 3] = x.source as u8;
+    }
 }

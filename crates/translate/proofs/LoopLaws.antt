@@ -54,7 +54,7 @@ module _ (j c n : ℕ) (steps₀ : List ℕ) (l : length steps₀ ≡ n * 4) whe
         (ap (λ (s : Step). withSource (stepAt old i) (tagBy j c s .source)) e ∙ tag-keeps j c (stepAt old i) ∙ sym (map-at (tagBy j c) old i (rw many h))))
 
     pub tags-all : i ≤ n → n ≤ i → steps ≡ bytesOf (map (tagBy j c) old)
-    tags-all a b = partly-all n old (map (tagBy j c) old) many new-many T a b
+    tags-all a b = partly-all n old (map (tagBy j c) old) many new-many T b
 
 -- ---- to a finer level
 pub low-long : (j : ℕ) (d : Design) (w : List ℕ) (ss : List Step) → length (lowAll j d w ss) ≡ length ss
@@ -125,7 +125,7 @@ module _ (j : ℕ) (d : Design) (w₀ : List ℕ) (n : ℕ) (steps₀ : List ℕ
     along-more e f = rw (e, f) on
 
   pub along-all : {i : ℕ} {w steps : List ℕ} → Along j d w₀ n steps₀ i w steps → i ≤ n → n ≤ i → steps ≡ bytesOf low
-  along-all A a b = partly-all n was low was-many low-many (A .partly) a b
+  along-all A a b = partly-all n was low was-many low-many (A .partly) b
 
 -- ---- for every design that the kept ends stand for
 abbrev pub Alongs : Sizes → List ℕ → List ℕ → ℕ → List ℕ → ℕ → List ℕ → List ℕ → Type 0

@@ -11,7 +11,7 @@ use Rattle.paper.specs.Paper.{Design, Step}
 use Rattle.bundle.specs.Bundle.{stepDistance, stepsAt, stepsOf}
 use Rattle.bundle.specs.Facts.{Trailed, Parted}
 use Rattle.schedule.specs.Records.{stepsIn, bytesOf, Records}
-use Rattle.schedule.proofs.RecordLaws.{length-steps, steps-bytes, length-bytes, bytes-again, bytes-many, records-kept}
+use Rattle.schedule.proofs.RecordLaws.{bytes-steps, steps-bytes, length-bytes, bytes-again, bytes-many, records-kept}
 use Rattle.engine.specs.Entry.{scheduleOf}
 use Rattle.translate.specs.Written.{rewritten}
 use Rattle.translate.proofs.LoopLaws.{low-long}
@@ -58,24 +58,20 @@ pub coarsened-all : {k c j form : ℕ} {steps₀ steps : List ℕ} → Coarsened
 coarsened-all {k} {c} {j} {form} {steps₀} F l m = let z : j ≡ form = omega arith in F .holds ∙ ap (λ (i : ℕ). bytesOf (coarser (i - k) k c (stepsIn steps₀))) z
 
 -- ---- a bundle with other steps, as many as its own
-module _ (b : List ℕ) (T : Trailed b) (P : Parted b) where
-  pub at-inside : stepsAt b + stepDistance b + 8 ≡ length b
-  at-inside = omega (arith, P .steps-last, T .long)
+module _ (b : List ℕ) (P : Parted b) where
+  pub bytes-own : bytesOf (scheduleOf b) ≡ stepsOf b
+  bytes-own = bytes-steps (stepDistance b / 4) (stepsOf b) (omega (arith, P .steps-long, P .whole-steps))
 
-  pub steps-many : length (scheduleOf b) * 4 ≡ stepDistance b
-  steps-many =
-      let l : length (stepsOf b) ≡ stepDistance b / 4 * 4 = omega (arith, P .steps-long, P .whole-steps) in
-      let n : length (scheduleOf b) ≡ stepDistance b / 4 = length-steps (stepDistance b / 4) (stepsOf b) l in
-      omega (arith, P .whole-steps)
+  pub bytes-long : (ss : List Step) → length ss ≡ length (scheduleOf b) → length (bytesOf ss) ≡ stepDistance b
+  bytes-long ss h = length-bytes ss ∙ ap (λ (n : ℕ). n * 4) h ∙ sym (length-bytes (scheduleOf b)) ∙ ap length bytes-own ∙ P .steps-long
 
-  pub rewritten-long : (ss : List Step) (k : ℕ) → length ss ≡ length (scheduleOf b) → length (rewritten b ss k) ≡ length b
+  pub rewritten-long : Trailed b → (ss : List Step) (k : ℕ) → length ss ≡ length (scheduleOf b) → length (rewritten b ss k) ≡ length b
   unfolding rewritten
-  rewritten-long ss k h =
-      let a : length (take (stepsAt b) b) ≡ stepsAt b = length-take-le (stepsAt b) b (omega (arith, at-inside)) in
-      let e : length (bytesOf ss) ≡ stepDistance b = length-bytes ss ∙ ap (λ (n : ℕ). n * 4) h ∙ steps-many in
-      let q : length (drop (trailerOf b) b) ≡ 8 = length-drop (trailerOf b) b ∙ omega (arith, T .long) in
-      length-set (take (stepsAt b) b ++ (bytesOf ss ++ drop (trailerOf b) b)) (length b - 1) k ∙ length-append (take (stepsAt b) b) (bytesOf ss ++ drop (trailerOf b) b)
-      ∙ ap₂ (λ (x y : ℕ). x + y) a (length-append (bytesOf ss) (drop (trailerOf b) b) ∙ ap₂ (λ (x y : ℕ). x + y) e q) ∙ omega (arith, at-inside)
+  rewritten-long T ss k h =
+      let f = take (stepsAt b) b in
+      let l = drop (trailerOf b) b in
+      length-set (f ++ (bytesOf ss ++ l)) (length b - 1) k ∙ length-append f (bytesOf ss ++ l)
+      ∙ omega (arith, length-take-le (stepsAt b) b (omega (arith, P .steps-last, T .long)), length-append (bytesOf ss) l, bytes-long ss h, length-drop (trailerOf b) b, P .steps-last, T .long)
 
   -- ---- `write`, from what it has in hand: the copy o, and where the first step stands
   module _ {at : ℕ} {o : List ℕ} (e : at ≡ stepsAt b) (g : o ≡ b) where
@@ -86,6 +82,6 @@ module _ (b : List ℕ) (T : Trailed b) (P : Parted b) where
     pub all-written : {u : List ℕ} (ss : List Step) (k : ℕ) → u ≡ bytesOf ss → set (putMid at (length b - 8 - at) o u) (length b - 1) k ≡ rewritten b ss k
     unfolding rewritten
     all-written {u} ss k h =
-        let z : at ≤ length b - 8 = omega (arith, at-inside) in
+        let z : at ≤ length b - 8 = omega (arith, P .steps-last) in
         let p : putMid at (length b - 8 - at) o u ≡ take at o ++ (u ++ drop (length b - 8) o) = ap (λ (x : List ℕ). take at o ++ (u ++ x)) (post-is at (length b - 8) o z) in
         rw p (rw (h, g, e))

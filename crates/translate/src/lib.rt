@@ -138,25 +138,12 @@ fn write(bundle: &[u8], s: Sizes, form: usize, ends: &[u8], words: &mut [u64], o
     requires { ⌜ (Parts s (now bundle)) × (Bounded s) × (Runs s (now ends) (now bundle)) × (form ≤ mostForm) × (length (now words) ≡ mostWords) × (length (now out) ≡ length (now bundle)) ⌝ }
     ensures { λ r. ⌜ WritesTo s (now (ends .entry)) (now (bundle .entry)) form (now (out .exit)) ⌝ }
 {
-    copy(bundle, out);
+    fault::copy(bundle, out);
     let at = bundle::steps_at(bundle);
     let end = bundle.len() - 8;
     write_steps(bundle, s, form, ends, words, &mut out[at..end]);
     let last = bundle.len() - 1;
     out[last] = form as u8;
-}
-
-// All bytes of `from`, in their places.
-fn copy(from: &[u8], to: &mut [u8])
-    requires { ⌜ length (now to) ≡ length (now from) ⌝ }
-    ensures { λ r. ⌜ now (to .exit) ≡ now (from .entry) ⌝ }
-{
-    let n = from.len();
-    let mut i = 0;
-    while i < n {
-        to[i] = from[i];
-        i += 1;
-    }
 }
 
 // The bundle's steps at the level that is asked for, in place of its own.

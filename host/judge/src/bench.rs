@@ -25,3 +25,9 @@ pub trait Draws {
     /// Writes the table that a text draws to the lent bytes.
     fn undraw(&self, text: &[u8], out: &mut [u8]) -> Answer;
 }
+
+/// Whoever replays logs: the library, the model, the fast version, or a broken variant of the model.
+pub trait Replays {
+    /// Writes the bundle that a log's lines make of one without steps to the lent bytes, and runs it in the lent words.
+    fn replay(&self, bundle: &[u8], standing: &[u8], log: &[u8], out: &mut [u8], words: &mut [u64]) -> Answer;
+}

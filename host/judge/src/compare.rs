@@ -1,8 +1,10 @@
-//! Two benches on one bundle, table or drawing: every answer, and every lent word and byte.
+//! Two benches on one bundle, table, drawing or log: every answer, and every lent word and byte.
 
-use crate::bench::{Bench, Draws};
+use crate::bench::{Bench, Draws, Replays};
 use crate::dice::Dice;
 use crate::drawings::{Drawing, Text};
+use crate::logs::LogOutline;
+use crate::makers::logs::Replay;
 use crate::model::{read, read_table, Model};
 use macaroosh::calls::{Answer, First};
 use macaroosh::Form;
@@ -27,10 +29,8 @@ pub fn compare(
     dice: &mut Dice,
 ) -> Result<Alike, String> {
     let mut refusals = Vec::new();
-    // Where reading refuses, any length will do.
-    let words = read(bundle, standing).map_or(7, |b| b.start().words().len());
-    for length in lengths(words, dice) {
-        let lent: Vec<u64> = (0..length).map(|_| dice.junk()).collect();
+    for length in lengths(words_of(bundle, standing), dice) {
+        let lent = junk_words(length, dice);
         let ours = |lent: &mut [u64]| one.run(bundle, standing, lent);
         let theirs = |lent: &mut [u64]| other.run(bundle, standing, lent);
         refusals.push(same("run", lent, ours, theirs)?);
@@ -78,6 +78,39 @@ pub fn compare_undraw(one: &dyn Draws, other: &dyn Draws, text: &[u8], dice: &mu
     Ok(refusals)
 }
 
+/// The same for a log's replay, with its refusals: each length of the lent bytes beside each of the lent words.
+pub fn compare_replay(
+    one: &dyn Replays,
+    other: &dyn Replays,
+    replay: &Replay,
+    dice: &mut Dice,
+) -> Result<Vec<u8>, String> {
+    let Replay { bundle, standing, log, .. } = replay;
+    // Also for a log that is refused, so that there would be room for whoever takes it.
+    let bytes = bundle.len() + 4 * Model.pieces(log).len();
+    let words = words_of(bundle, standing);
+    let mut refusals = Vec::new();
+    for out_length in lengths(bytes, dice) {
+        for words_length in lengths(words, dice) {
+            let (out, words) = (junk(out_length, dice), junk_words(words_length, dice));
+            let asked = |who: &dyn Replays| {
+                let (mut out, mut words) = (out.clone(), words.clone());
+                let answer = who.replay(bundle, standing, log, &mut out, &mut words);
+                (answer, out, words)
+            };
+            let (ours, theirs) = (asked(one), asked(other));
+            let name = format!("replay with {out_length} bytes and {words_length} words lent");
+            if ours.0 != theirs.0 {
+                return Err(format!("{name}: {:?} against {:?}", ours.0, theirs.0));
+            }
+            same_memory(&format!("{name}: byte"), &ours.1, &theirs.1)?;
+            same_memory(&format!("{name}: word"), &ours.2, &theirs.2)?;
+            refusals.push(ours.0.refusal);
+        }
+    }
+    Ok(refusals)
+}
+
 // A number to ask for as a form: none of the forms' own, often one that has a form's in its lowest bytes.
 fn no_form(dice: &mut Dice) -> u64 {
     let low = dice.below(Form::ALL.len()) as u64;
@@ -93,12 +126,21 @@ fn no_form(dice: &mut Dice) -> u64 {
     }
 }
 
+// How many words a bundle's run needs; where reading refuses, any length will do.
+fn words_of(bundle: &[u8], standing: &[u8]) -> usize {
+    read(bundle, standing).map_or(7, |bundle| bundle.start().words().len())
+}
+
 fn lengths(exact: usize, dice: &mut Dice) -> [usize; 4] {
     [0, exact.saturating_sub(1), exact, exact + dice.between(1, 40)]
 }
 
 fn junk(length: usize, dice: &mut Dice) -> Vec<u8> {
     (0..length).map(|_| dice.junk() as u8).collect()
+}
+
+fn junk_words(length: usize, dice: &mut Dice) -> Vec<u64> {
+    (0..length).map(|_| dice.junk()).collect()
 }
 
 // The refusal of a call, where both answer it alike and leave the lent memory alike.
@@ -113,8 +155,14 @@ fn same<L: Clone + Debug + PartialEq>(
     if answers.0 != answers.1 {
         return Err(format!("{name} with {} lent: {:?} against {:?}", ours.len(), answers.0, answers.1));
     }
+    same_memory(&format!("{name} with {} lent: at", ours.len()), &ours, &theirs)?;
+    Ok(answers.0.refusal)
+}
+
+// Where lent memory that was alike is not alike any more.
+fn same_memory<L: Debug + PartialEq>(name: &str, ours: &[L], theirs: &[L]) -> Result<(), String> {
     match (0..ours.len()).find(|&i| ours[i] != theirs[i]) {
-        Some(i) => Err(format!("{name} with {} lent: at {i} {:?} against {:?}", ours.len(), ours[i], theirs[i])),
-        None => Ok(answers.0.refusal),
+        Some(i) => Err(format!("{name} {i}: {:?} against {:?}", ours[i], theirs[i])),
+        None => Ok(()),
     }
 }

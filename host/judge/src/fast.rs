@@ -1,5 +1,7 @@
 //! The same questions by hand, for speed: rules decoded once with their thresholds, sets in words, nothing allocated.
 
+mod log;
+
 use crate::bench::Bench;
 use macaroosh::calls::{Answer, First, Step};
 use macaroosh::{Form, Refusal, MOST_WORDS};
@@ -19,13 +21,9 @@ impl Bench for Fast {
             Ok(schedule) => schedule,
             Err(refusal) => return nothing_done(refusal),
         };
-        let words = match words.get_mut(..schedule.room()) {
-            Some(words) => words,
-            None => return nothing_done(refused(30, 0)),
-        };
-        match schedule.run(words) {
-            Ok(()) => Answer { refusal: 0, place: 0, count: (schedule.steps.len() / 4) as u32 },
-            Err(Refusal { number, place }) => Answer { refusal: number, place, count: place },
+        match words.get_mut(..schedule.room()) {
+            Some(words) => schedule.answer(words),
+            None => nothing_done(refused(30, 0)),
         }
     }
 
@@ -205,6 +203,15 @@ impl<'a> Schedule<'a> {
     // The faulty senders.
     fn faulty(&self) -> u64 {
         Self::below(self.n) & !Self::below(self.starts.len())
+    }
+
+    // What a run answers that has just the words that it needs.
+    #[inline(always)]
+    fn answer(&self, words: &mut [u64]) -> Answer {
+        match self.run(words) {
+            Ok(()) => Answer { refusal: 0, place: 0, count: (self.steps.len() / 4) as u32 },
+            Err(Refusal { number, place }) => Answer { refusal: number, place, count: place },
+        }
     }
 
     // The configuration after all steps, or after those before the first refused one; 20 to 25.

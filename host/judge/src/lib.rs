@@ -9,8 +9,9 @@ pub mod dice;
 pub mod drawings;
 pub mod fast;
 mod library;
+pub mod logs;
 pub mod makers;
 pub mod model;
 
-pub use bench::{Bench, Draws};
+pub use bench::{Bench, Draws, Replays};
 pub use library::Library;

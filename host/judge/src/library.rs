@@ -1,6 +1,6 @@
 //! The proved library among the benches.
 
-use crate::bench::{Bench, Draws};
+use crate::bench::{Bench, Draws, Replays};
 use macaroosh::calls::{self, Answer, First};
 
 /// The proved library as one of those that are compared.
@@ -31,5 +31,11 @@ impl Draws for Library {
 
     fn undraw(&self, text: &[u8], out: &mut [u8]) -> Answer {
         calls::undraw(text, out)
+    }
+}
+
+impl Replays for Library {
+    fn replay(&self, bundle: &[u8], standing: &[u8], log: &[u8], out: &mut [u8], words: &mut [u64]) -> Answer {
+        calls::replay(bundle, standing, log, out, words)
     }
 }

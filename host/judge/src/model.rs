@@ -65,7 +65,8 @@ pub(crate) fn refused(number: u8, place: usize) -> Refusal {
     Refusal { number, place: place as u32 }
 }
 
-fn little_endian(bytes: &[u8]) -> usize {
+/// The number of two bytes.
+pub(crate) fn little_endian(bytes: &[u8]) -> usize {
     usize::from(bytes[0]) + 256 * usize::from(bytes[1])
 }
 

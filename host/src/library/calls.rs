@@ -50,6 +50,13 @@ pub fn undraw(text: &[u8], out: &mut [u8]) -> Answer {
     unpacked(ffi::undraw(text, out))
 }
 
+/// Writes the bundle that the lines of a log make of one without steps, in message form, and runs it: four bytes a line more than
+/// the bundle has, and `MOST_WORDS` words, are enough.
+#[inline]
+pub fn replay(bundle: &[u8], standing: &[u8], log: &[u8], out: &mut [u8], words: &mut [u64]) -> Answer {
+    unpacked(ffi::replay(bundle, standing, log, out, words))
+}
+
 // The refusal in bits 0 to 7, the place in bits 8 to 31, the count in bits 32 to 63.
 #[inline]
 fn unpacked(packed: u64) -> Answer {

@@ -37,6 +37,18 @@ mod capi {
         ) -> u64;
         pub fn macaroosh_draw(table: *const u8, table_length: usize, out: *mut u8, out_length: usize) -> u64;
         pub fn macaroosh_undraw(text: *const u8, text_length: usize, out: *mut u8, out_length: usize) -> u64;
+        pub fn macaroosh_replay(
+            bundle: *const u8,
+            bundle_length: usize,
+            standing: *const u8,
+            standing_length: usize,
+            log: *const u8,
+            log_length: usize,
+            out: *mut u8,
+            out_length: usize,
+            words: *mut u64,
+            words_length: usize,
+        ) -> u64;
     }
 }
 
@@ -108,4 +120,24 @@ pub fn draw(table: &[u8], out: &mut [u8]) -> u64 {
 pub fn undraw(text: &[u8], out: &mut [u8]) -> u64 {
     // SAFETY: as above.
     unsafe { capi::macaroosh_undraw(text.as_ptr(), text.len(), out.as_mut_ptr(), out.len()) }
+}
+
+/// The packed answer of a replay.
+#[inline]
+pub fn replay(bundle: &[u8], standing: &[u8], log: &[u8], out: &mut [u8], words: &mut [u64]) -> u64 {
+    // SAFETY: as above.
+    unsafe {
+        capi::macaroosh_replay(
+            bundle.as_ptr(),
+            bundle.len(),
+            standing.as_ptr(),
+            standing.len(),
+            log.as_ptr(),
+            log.len(),
+            out.as_mut_ptr(),
+            out.len(),
+            words.as_mut_ptr(),
+            words.len(),
+        )
+    }
 }

@@ -21,13 +21,15 @@ pub enum Asked {
     Answer(Request),
 }
 
-/// One question about one bundle, table, drawing or text.
+/// One question about one bundle, table, drawing or text, or about a bundle and a log.
 #[derive(Debug)]
 pub struct Request {
     /// The question.
     pub command: Command,
     /// Where the bundle, table, drawing or text is read.
     pub input: Input,
+    /// Where the log is read that a replay is asked of.
+    pub log: Option<Input>,
     /// Where the standing table is read, if it is not the echo table.
     pub standing: Option<Input>,
     /// Where the output is written, if not to standard output (`-`).
@@ -61,6 +63,21 @@ pub enum Command {
     Unpack,
     /// The bundle of a text.
     Pack,
+    /// What a log leaves, over a bundle without steps.
+    Replay(Rows),
+    /// The log of a bundle.
+    Log,
+}
+
+/// What a replay shows.
+#[derive(Clone, Copy, Debug, PartialEq, Eq)]
+pub enum Rows {
+    /// The configuration alone.
+    None,
+    /// A row for each line.
+    All,
+    /// The same, each as soon as its line has come in.
+    AsTheyCome,
 }
 
 impl Command {
@@ -72,6 +89,11 @@ impl Command {
             Command::Pack => "text",
             _ => "bundle",
         }
+    }
+
+    /// Whether it reads a log besides.
+    pub fn reads_log(self) -> bool {
+        matches!(self, Command::Replay(_))
     }
 
     /// Whether its output is bytes that are no text.
@@ -113,9 +135,9 @@ impl Input {
     }
 }
 
-const COMMANDS: &str = "run, trace, first, translate, draw, undraw, unpack, pack";
-const OPTIONS: &str =
-    "--standing, -o, --to, --svg, --png, --of, --all, --board, --from, --plain, --json, --partial, --help, --version";
+const COMMANDS: &str = "run, trace, first, translate, draw, undraw, unpack, pack, replay, log";
+const OPTIONS: &str = "--standing, -o, --to, --svg, --png, --of, --all, --board, --from, --trace, --follow, --plain, \
+                       --json, --partial, --help, --version";
 
 /// The options that are for some commands alone.
 #[derive(Default)]
@@ -126,6 +148,8 @@ struct Special {
     from: Option<usize>,
     all: bool,
     of: bool,
+    trace: bool,
+    follow: bool,
 }
 
 /// Reads the words, or says what is wrong with them. Options may stand anywhere; after `--` there are none.
@@ -147,6 +171,8 @@ pub fn parse(words: impl Iterator<Item = OsString>) -> Result<Asked, String> {
             "--json" => json = true,
             "--all" => special.all = true,
             "--of" => special.of = true,
+            "--trace" => special.trace = true,
+            "--follow" => special.follow = true,
             "--board" => once(&mut special.board, number(&words.value("--board", "number")?)?, "--board")?,
             "--from" => once(&mut special.from, number(&words.value("--from", "step")?)?, "--from")?,
             "--standing" => once(&mut standing, Input::of(words.value("--standing", "file")?), "--standing")?,
@@ -162,14 +188,22 @@ pub fn parse(words: impl Iterator<Item = OsString>) -> Result<Asked, String> {
     }
     let mut free = free.into_iter();
     let command = match free.next() {
-        None => return Err("which command: run, trace, first, translate, draw, undraw, unpack or pack?".to_string()),
+        None => {
+            let all = "run, trace, first, translate, draw, undraw, unpack, pack, replay or log";
+            return Err(format!("which command: {all}?"));
+        }
         Some(word) if word == "help" => return Ok(Asked::Help),
         Some(word) => command(&word, special)?,
     };
     let what = command.reads();
-    let input = Input::of(free.next().ok_or(format!("which {what}? Name a file, or '-' for standard input"))?);
+    let mut input = |what: &str| {
+        let word = free.next().ok_or_else(|| format!("which {what}? Name a file, or '-' for standard input"));
+        word.map(Input::of)
+    };
+    let (input, log) = (input(what)?, command.reads_log().then(|| input("log")).transpose()?);
     if let Some(word) = free.next() {
-        return Err(format!("one {what} at a time: '{}' is one word too many", shown(&word)));
+        let log = if log.is_some() { " and one log" } else { "" };
+        return Err(format!("one {what}{log} at a time: '{}' is one word too many", shown(&word)));
     }
     if partial && !matches!(command, Command::Run | Command::Trace(_)) {
         return Err("--partial is for run and trace alone".to_string());
@@ -180,16 +214,27 @@ pub fn parse(words: impl Iterator<Item = OsString>) -> Result<Asked, String> {
     if matches!(command, Command::Draw(_) | Command::Undraw) && standing.is_some() {
         return Err(format!("--standing is for bundles; this command reads a {what} alone"));
     }
-    if input.is_standard() && standing.as_ref().map_or(false, Input::is_standard) {
-        return Err(format!("only one of {what} and standing table can come from standard input"));
+    one_from_standard_input(&[(what, Some(&input)), ("log", log.as_ref()), ("standing table", standing.as_ref())])?;
+    if command.reads_log() && output.as_ref().map_or(false, |word| word == "-") {
+        return Err("what a replay shows goes to standard output, and -o keeps its bundle; name a file".to_string());
     }
     let style = style(command, plain, json)?;
     let output = output.filter(|word| word != "-").map(PathBuf::from);
-    Ok(Asked::Answer(Request { command, input, standing, output, partial, style }))
+    Ok(Asked::Answer(Request { command, input, log, standing, output, partial, style }))
+}
+
+// It can be read once.
+fn one_from_standard_input(inputs: &[(&str, Option<&Input>)]) -> Result<(), String> {
+    let from_it: Vec<&str> =
+        inputs.iter().filter(|(_, input)| input.map_or(false, Input::is_standard)).map(|(what, _)| *what).collect();
+    match from_it[..] {
+        [one, other, ..] => Err(format!("only one of {one} and {other} can come from standard input")),
+        _ => Ok(()),
+    }
 }
 
 fn command(word: &OsStr, special: Special) -> Result<Command, String> {
-    let Special { to, image, board, from, all, of } = special;
+    let Special { to, image, board, from, all, of, trace, follow } = special;
     let asked_to = to.is_some();
     let command = match word.to_str() {
         Some("run") => Command::Run,
@@ -202,6 +247,10 @@ fn command(word: &OsStr, special: Special) -> Result<Command, String> {
         Some("undraw") => Command::Undraw,
         Some("unpack") => Command::Unpack,
         Some("pack") => Command::Pack,
+        Some("replay") if follow => Command::Replay(Rows::AsTheyCome),
+        Some("replay") if trace => Command::Replay(Rows::All),
+        Some("replay") => Command::Replay(Rows::None),
+        Some("log") => Command::Log,
         _ => {
             let word = shown(word);
             return Err(format!("there is no command '{word}'; the commands are {COMMANDS}"));
@@ -222,6 +271,9 @@ fn command(word: &OsStr, special: Special) -> Result<Command, String> {
     if (board.is_some() || from.is_some()) && !matches!(command, Command::Trace(_)) {
         return Err("--board and --from are for trace alone".to_string());
     }
+    if (trace || follow) && !command.reads_log() {
+        return Err("--trace and --follow are for replay alone".to_string());
+    }
     Ok(command)
 }
 
@@ -238,8 +290,14 @@ fn part(board: Option<usize>, from: Option<usize>, to: Option<OsString>) -> Resu
 fn style(command: Command, plain: bool, json: bool) -> Result<Style, String> {
     match (plain, json, command) {
         (true, true, _) => Err("--plain and --json are two ways to give one answer; choose one".to_string()),
-        (_, true, Command::Run | Command::Trace(_) | Command::First | Command::All) => Ok(Style::Json),
-        (_, true, _) => Err("--json is for run, trace and first alone".to_string()),
+        (_, true, Command::Replay(Rows::AsTheyCome)) => {
+            Err("--json is one object, and --follow gives rows as they come; --plain has lines for programs"
+                .to_string())
+        }
+        (_, true, Command::Run | Command::Trace(_) | Command::First | Command::All | Command::Replay(_)) => {
+            Ok(Style::Json)
+        }
+        (_, true, _) => Err("--json is for run, trace, first and replay alone".to_string()),
         (true, false, _) => Ok(Style::Plain),
         (false, false, _) => Ok(Style::People),
     }

@@ -12,15 +12,29 @@ const LIMIT: u64 = 1 << 20;
 
 /// The bytes of an input, or what is wrong with it; `most` says how long such an input can be.
 pub fn read(input: &Input, most: &str) -> Result<Vec<u8>, String> {
-    let (name, bytes) = match input {
-        Input::Standard => ("standard input".to_string(), system::stream(0).and_then(read_some)),
-        Input::File(path) => (quoted(path), File::open(path).and_then(read_some)),
-    };
-    let bytes = bytes.map_err(|error| format!("macaroosh: cannot read {name}: {error}\n"))?;
+    let (name, from) = opened(input)?;
+    let bytes = read_some(from).map_err(|error| unread(&name, &error))?;
     if bytes.len() as u64 > LIMIT {
         return Err(format!("macaroosh: {name} is over {LIMIT} bytes; {most}\n"));
     }
     Ok(bytes)
+}
+
+/// An input to be read as it comes, and its name in messages.
+pub fn opened(input: &Input) -> Result<(String, File), String> {
+    let (name, from) = match input {
+        Input::Standard => ("standard input".to_string(), system::stream(0)),
+        Input::File(path) => (quoted(path), File::open(path)),
+    };
+    match from {
+        Ok(from) => Ok((name, from)),
+        Err(error) => Err(unread(&name, &error)),
+    }
+}
+
+/// That an input can't be read.
+pub fn unread(name: &str, error: &io::Error) -> String {
+    format!("macaroosh: cannot read {name}: {error}\n")
 }
 
 // One byte past the limit shows that there is more.
@@ -30,13 +44,20 @@ fn read_some(from: impl Read) -> io::Result<Vec<u8>> {
     Ok(bytes)
 }
 
-/// Writes an output to its file or to standard output, or says why it can't be; an empty one leaves a file as it was.
+/// Writes an output to its file or to standard output, or says why it can't be.
 pub fn write(path: Option<&Path>, bytes: &[u8]) -> Result<(), String> {
-    let (name, written) = match path {
+    match path {
         // Also an empty one, so that a closed standard output is told.
-        None => ("standard output".to_string(), output::standard(bytes)),
-        Some(_) if bytes.is_empty() => return Ok(()),
-        Some(path) => (quoted(path), output::named(path, bytes)),
-    };
-    written.map_err(|error| format!("macaroosh: cannot write {name}: {error}\n"))
+        None => output::standard(bytes).map_err(|error| unwritten("standard output", &error)),
+        Some(path) => output::named(path, bytes).map_err(|error| unwritten(&quoted(path), &error)),
+    }
+}
+
+/// Writes a part of what is shown to standard output at once; whether its reader has not seen enough.
+pub fn show(text: &str) -> Result<bool, String> {
+    output::shown(text.as_bytes()).map_err(|error| unwritten("standard output", &error))
+}
+
+fn unwritten(name: &str, error: &io::Error) -> String {
+    format!("macaroosh: cannot write {name}: {error}\n")
 }

@@ -2,7 +2,6 @@
 
 use crate::replies::Question;
 use crate::trace::Move;
-use crate::why;
 use macaroosh::calls::{Answer, Step};
 use macaroosh::parts::{Parts, Picture};
 use macaroosh::{Form, Refusal};
@@ -120,7 +119,7 @@ fn head(question: &Question, refusal: Option<Refusal>) -> Fields {
     let Refusal { number: refused, place } = refusal.unwrap_or(Refusal { number: 0, place: 0 });
     let mut fields = vec![("refusal", number(refused)), ("place", number(place))];
     if let Some(refusal) = refusal {
-        let lines = why::of_bundle(question.bundle, question.standing, refusal);
+        let lines = question.why(refusal);
         fields.push(("reason", Json::Text(refusal.reason().to_string())));
         fields.push(("why", Json::List(lines.into_iter().map(Json::Text).collect())));
     }

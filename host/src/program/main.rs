@@ -1,5 +1,5 @@
-//! The program at the bench: run, translate, first, trace; draw, undraw; unpack, pack. Exit status 0 answered, 1 refused,
-//! 2 bad use.
+//! The program at the bench: run, translate, first, trace; draw, undraw; unpack, pack; replay, log. Exit status 0 answered,
+//! 1 refused, 2 bad use.
 #![deny(unsafe_code)]
 
 mod all;
@@ -10,6 +10,7 @@ mod graphviz;
 mod guard;
 mod json;
 mod kinds;
+mod log;
 mod marks;
 mod names;
 mod output;
@@ -23,7 +24,7 @@ mod trace;
 mod why;
 mod words;
 
-use args::{Asked, Command, Request};
+use args::{Asked, Command, Input, Request, Rows};
 use macaroosh::{ECHO, MOST_BYTES, MOST_DRAWING, MOST_TABLE};
 use replies::{Question, Reply};
 use show::Style;
@@ -47,25 +48,34 @@ Macaroosh runs a schedule of steps against a threshold table.
   macaroosh unpack FILE      write the bundle as text: its drawing, then a
                              line for each step
   macaroosh pack TEXT        write the bundle of a text, also of an edited one
+  macaroosh replay FILE LOG  show what the lines of a service log leave, as
+                             the steps of a bundle that has none
+  macaroosh log FILE         write the log of a bundle: a line for each step
 
 FILE is a bundle: a table, then a schedule. A bundle without a table is read
-beside the standing table. TABLE is a table alone, without a schedule. For
-each of the four '-' is standard input.
+beside the standing table. TABLE is a table alone, without a schedule. LOG has
+lines 'board 0 rule 3' and 'board 2 rule 3 type 0 from 0'. For each of the
+five '-' is standard input.
 
   --to FORM         the form to translate to: message, counting or plain
   --from I, --to J  trace steps I to J alone
   --board P         trace the steps of board P alone
   --all             list every possible step, the first one first
   --of              draw the table that a bundle has in front
+  --trace           with replay: show each line as trace shows a step
+  --follow          the same, each as soon as its line has come in; ends at
+                    the first line that is refused
   --standing FILE   the standing table; without this option the echo table
   --svg, --png      draw an image of the table; needs Graphviz's program dot
   -o FILE           write the output there; a file of that name stays as it
-                    was until the new one is whole
+                    was until the new one is whole. With replay: keep the
+                    bundle there, also where a step is refused
   --partial         with run or trace: write there too what a schedule left
                     that is refused at a step; without it a refused input
                     leaves the file as it was
   --plain           the same answer in numbers, for programs
-  --json            the same answer of run, trace or first as a JSON object
+  --json            the same answer of run, trace, first or replay as a JSON
+                    object
   --help            this page
   --version         the version
 
@@ -75,6 +85,7 @@ Exit status: 0 answered; 1 the input is refused, and its number, place and
 reason are on standard error; 2 bad use, or a file cannot be read or written.
 Try: macaroosh trace examples/w.bundle
      macaroosh draw examples/echo.table
+     macaroosh replay examples/w-empty.bundle examples/w.log --trace
 ";
 
 const VERSION: &str = concat!("macaroosh ", env!("CARGO_PKG_VERSION"), "\n");
@@ -109,10 +120,15 @@ fn answer(request: &Request) -> Result<u8, String> {
 // A refused input leaves an existing file as it was: what it has to show is for standard output, unless that is asked for.
 fn write(request: &Request, reply: &Reply) -> Result<(), String> {
     let path = request.output.as_deref();
-    match path.filter(|_| request.partial || !reply.refused) {
-        None if path.is_some() && reply.output.is_empty() => Ok(()),
-        to => files::write(to, &reply.output),
+    // What a replay shows is for standard output in any case.
+    if request.command.reads_log() {
+        reply.kept.as_ref().map_or(Ok(()), |bundle| files::write(path, bundle))?;
+        return files::write(None, &reply.output);
     }
+    if path.is_some() && reply.refused && reply.output.is_empty() {
+        return Ok(());
+    }
+    files::write(path.filter(|_| request.partial || !reply.refused), &reply.output)
 }
 
 fn reply(request: &Request) -> Result<Reply, String> {
@@ -123,7 +139,7 @@ fn reply(request: &Request) -> Result<Reply, String> {
     let plain = request.style == Style::Plain;
     let ask = |answered: &dyn Fn(&Question) -> Result<Reply, String>| {
         let (bundle, standing) = (bundle(&request.input)?, standing()?);
-        answered(&Question { bundle: &bundle, standing: &standing, style: request.style })
+        answered(&Question { bundle: &bundle, standing: &standing, log: None, style: request.style })
     };
     match request.command {
         Command::Run => ask(&|question| Ok(replies::run(question))),
@@ -142,7 +158,19 @@ fn reply(request: &Request) -> Result<Reply, String> {
             let most = format!("a text without comments and blanks of its own has at most {}", text::MOST_TEXT);
             Ok(text::pack::reply(&files::read(&request.input, &most)?, &standing()?, path, plain))
         }
+        Command::Replay(rows) => ask(&|question| replay(question, request, rows)),
+        Command::Log => ask(&|question| Ok(log::say::reply(question, path))),
     }
+}
+
+fn replay(question: &Question, request: &Request, rows: Rows) -> Result<Reply, String> {
+    let path = request.output.as_deref();
+    let from = request.log.as_ref().unwrap_or(&Input::Standard);
+    if rows == Rows::AsTheyCome {
+        return log::follow::reply(question, from, path);
+    }
+    let log = files::read(from, &format!("a log has at most {}", log::MOST_LOG))?;
+    Ok(log::replay::reply(question, &log, rows == Rows::All, path))
 }
 
 // To standard error; if that is closed there is nobody to tell.

@@ -11,9 +11,14 @@ const MOST_LINKS: usize = 40;
 
 /// To standard output; a reader that has seen enough, as `head`, is no mistake.
 pub fn standard(bytes: &[u8]) -> io::Result<()> {
+    shown(bytes).map(drop)
+}
+
+/// The same, and whether its reader has not seen enough.
+pub fn shown(bytes: &[u8]) -> io::Result<bool> {
     match system::stream(1).and_then(|out| write_to(out, bytes)) {
-        Err(error) if error.kind() == ErrorKind::BrokenPipe => Ok(()),
-        other => other,
+        Err(error) if error.kind() == ErrorKind::BrokenPipe => Ok(false),
+        other => other.map(|()| true),
     }
 }
 

@@ -1,7 +1,7 @@
-//! What each command has to say about a bundle; `trace` has a file of its own.
+//! What each command has to say about a bundle; `trace` has a file of its own, and logs have a folder.
 
 use crate::show::{self, Style};
-use crate::{all, json, why};
+use crate::{all, json, log, why};
 use macaroosh::calls::Answer;
 use macaroosh::parts::Parts;
 use macaroosh::terms::refusals;
@@ -14,25 +14,29 @@ pub struct Question<'a> {
     pub bundle: &'a [u8],
     /// The standing table.
     pub standing: &'a [u8],
+    /// The log that a replay is asked of.
+    pub log: Option<&'a [u8]>,
     /// Whom the answer is for.
     pub style: Style,
 }
 
 /// The answer to it.
 pub struct Reply {
-    /// For standard output or the file of `-o`; nothing is written where it is empty.
+    /// For standard output or the file of `-o`; of a refused input nothing is written where it is empty.
     pub output: Vec<u8>,
     /// For standard error, once the output is written.
     pub told: Option<String>,
     /// Whether the input was refused.
     pub refused: bool,
+    /// A bundle for the file of `-o`, also where a step of it is refused; the output is for standard output then.
+    pub kept: Option<Vec<u8>>,
 }
 
 impl Reply {
     /// An output that is no answer for people by itself: they and programs are told on standard error.
     pub fn of(output: Vec<u8>, answer: Answer, told: String, plain: bool) -> Reply {
         let told = Some(if plain { show::result(answer) } else { told });
-        Reply { output, told, refused: answer.refused().is_some() }
+        Reply { output, told, refused: answer.refused().is_some(), kept: None }
     }
 }
 
@@ -40,12 +44,20 @@ impl Question<'_> {
     /// Text, and a refusal, which is told to people in words.
     pub fn reply(&self, output: String, refusal: Option<Refusal>) -> Reply {
         let told = refusal.filter(|_| self.style == Style::People).map(|refusal| self.told(refusal));
-        Reply { output: output.into_bytes(), told, refused: refusal.is_some() }
+        Reply { output: output.into_bytes(), told, refused: refusal.is_some(), kept: None }
+    }
+
+    /// The figures behind a refusal, in lines.
+    pub fn why(&self, refusal: Refusal) -> Vec<String> {
+        match self.log {
+            None => why::of_bundle(self.bundle, self.standing, refusal),
+            Some(log) => log::why::of_replay(self.bundle, self.standing, log, refusal),
+        }
     }
 
     // The refusal in words, and its figures.
     fn told(&self, refusal: Refusal) -> String {
-        told(refusal, why::of_bundle(self.bundle, self.standing, refusal))
+        told(refusal, self.why(refusal))
     }
 }
 
@@ -58,12 +70,17 @@ pub fn told(refusal: Refusal, lines: Vec<String>) -> String {
 pub fn run(question: &Question) -> Reply {
     let mut words = [0; MOST_WORDS];
     let answer = macaroosh::calls::run(question.bundle, question.standing, &mut words);
+    shown(question, answer, &words)
+}
+
+/// The same where the bundle was run already, and has left these words.
+pub fn shown(question: &Question, answer: Answer, words: &[u64]) -> Reply {
     let parts = Parts::of(question.bundle, question.standing).filter(|_| answer.left_a_configuration());
     let output = match (question.style, &parts) {
-        (Style::Json, _) => json::run(question, answer, parts.as_ref().map(|parts| (parts, &words[..]))),
-        (Style::Plain, Some(parts)) => show::result(answer) + &show::lines(&parts.picture(&words)),
+        (Style::Json, _) => json::run(question, answer, parts.as_ref().map(|parts| (parts, words))),
+        (Style::Plain, Some(parts)) => show::result(answer) + &show::lines(&parts.picture(words)),
         (Style::Plain, None) => show::result(answer),
-        (Style::People, Some(parts)) => show::configuration(parts, &parts.picture(&words), answer.count),
+        (Style::People, Some(parts)) => show::configuration(parts, &parts.picture(words), answer.count),
         (Style::People, None) => String::new(),
     };
     question.reply(output, answer.refused())
@@ -86,7 +103,7 @@ pub fn translate(question: &Question, to: Option<Form>, path: Option<&Path>) -> 
             format!("wrote {} in {form} form{}\n", show::counted(output.len(), "byte"), show::to(path))
         }
     };
-    Reply { output, told: Some(told), refused: answer.refused().is_some() }
+    Reply { output, told: Some(told), refused: answer.refused().is_some(), kept: None }
 }
 
 /// The first possible step.

@@ -202,19 +202,33 @@ pub fn listed(numbers: &[usize]) -> String {
 
 /// Rows of cells as columns, to the right but for those named.
 pub fn aligned(rows: &[Vec<String>], to_the_left: &[usize]) -> String {
-    let columns = rows.iter().map(Vec::len).max().unwrap_or(0);
-    let wide = |c: usize| rows.iter().filter_map(|row| row.get(c)).map(|cell| cell.chars().count()).max().unwrap_or(0);
-    let widths: Vec<usize> = (0..columns).map(wide).collect();
-    let mut text = String::new();
-    for row in rows {
+    let columns = Columns::of(rows, to_the_left);
+    rows.iter().map(|row| columns.line(row)).collect()
+}
+
+/// How wide columns are, and which of them are to the left.
+pub struct Columns {
+    widths: Vec<usize>,
+    to_the_left: Vec<usize>,
+}
+
+impl Columns {
+    /// As wide as these rows ask for.
+    pub fn of(rows: &[Vec<String>], to_the_left: &[usize]) -> Columns {
+        let columns = rows.iter().map(Vec::len).max().unwrap_or(0);
+        let wide =
+            |c: usize| rows.iter().filter_map(|row| row.get(c)).map(|cell| cell.chars().count()).max().unwrap_or(0);
+        Columns { widths: (0..columns).map(wide).collect(), to_the_left: to_the_left.to_vec() }
+    }
+
+    /// A row as a line.
+    pub fn line(&self, row: &[String]) -> String {
         let mut line = String::new();
         for (c, cell) in row.iter().enumerate() {
-            let width = widths[c];
+            let width = self.widths.get(c).copied().unwrap_or(0);
             line += if c == 0 { "" } else { "  " };
-            line += &if to_the_left.contains(&c) { format!("{cell:<width$}") } else { format!("{cell:>width$}") };
+            line += &if self.to_the_left.contains(&c) { format!("{cell:<width$}") } else { format!("{cell:>width$}") };
         }
-        text += line.trim_end();
-        text += "\n";
+        format!("{}\n", line.trim_end())
     }
-    text
 }

@@ -5,13 +5,17 @@ use crate::json;
 use crate::part::Part;
 use crate::replies::{Question, Reply};
 use crate::show::{self, Style};
-use macaroosh::calls::{run, translate_to, Step};
+use macaroosh::calls::{run, translate_to, Answer, Step};
 use macaroosh::parts::{Parts, Picture};
 use macaroosh::{Form, MOST_WORDS};
 
 /// A part of the trace of a bundle, up to a step that is refused.
 pub fn reply(question: &Question, part: Part) -> Reply {
-    let answer = run(question.bundle, question.standing, &mut [0; MOST_WORDS]);
+    shown(question, run(question.bundle, question.standing, &mut [0; MOST_WORDS]), part)
+}
+
+/// The same where the bundle was run already.
+pub fn shown(question: &Question, answer: Answer, part: Part) -> Reply {
     let parts = Parts::of(question.bundle, question.standing).filter(|_| answer.left_a_configuration());
     let moves = parts.as_ref().map_or(Vec::new(), |parts| moves(parts, question.standing, answer.count as usize, part));
     let output = match (question.style, &parts) {
@@ -37,11 +41,7 @@ pub struct Move {
 }
 
 fn moves(parts: &Parts, standing: &[u8], accepted: usize, part: Part) -> Vec<Move> {
-    let accepted_part = parts.first(accepted);
-    let mut translated = vec![0; accepted_part.len()];
-    let to = if parts.form == Form::Message { Form::Counting } else { Form::Message };
-    translate_to(&accepted_part, standing, u64::from(to.number()), &mut translated);
-    let others: Vec<Step> = Parts::of(&translated, standing).map_or(Vec::new(), |other| other.steps().collect());
+    let others = translated(parts, standing, accepted);
     let mut words = [0; MOST_WORDS];
     let mut after = |steps: usize| {
         run(&parts.first(steps), standing, &mut words);
@@ -51,36 +51,76 @@ fn moves(parts: &Parts, standing: &[u8], accepted: usize, part: Part) -> Vec<Mov
     shown.map(|(number, (step, other))| Move { number, step, other, after: after(number + 1) }).collect()
 }
 
+/// The last step of a schedule that runs and has left these words.
+pub fn last(parts: &Parts, standing: &[u8], words: &[u64]) -> Option<Move> {
+    let other = translated(parts, standing, parts.length()).pop()?;
+    let number = parts.length().checked_sub(1)?;
+    Some(Move { number, step: parts.steps().last()?, other, after: parts.picture(words) })
+}
+
+// The accepted steps translated.
+fn translated(parts: &Parts, standing: &[u8], accepted: usize) -> Vec<Step> {
+    let accepted_part = parts.first(accepted);
+    let mut translated = vec![0; accepted_part.len()];
+    let to = if parts.form == Form::Message { Form::Counting } else { Form::Message };
+    translate_to(&accepted_part, standing, u64::from(to.number()), &mut translated);
+    Parts::of(&translated, standing).map_or(Vec::new(), |other| other.steps().collect())
+}
+
 // For people: a line for the starts, then a row for each step.
 fn table(parts: &Parts, moves: &[Move], part: Part) -> String {
-    let starts: String = parts.starts.iter().map(|state| format!(" {state}")).collect();
     let only = match part.told() {
         Some(told) if moves.is_empty() => format!("{told}: there are none\n"),
         Some(told) => told + "\n",
         None => String::new(),
     };
-    let text = format!("{}\nboards start in states{starts}\n{only}", show::setting(parts));
+    let text = opening(parts) + &only;
     if moves.is_empty() {
         return text;
     }
-    let mut head = vec!["step", "board", "rule", "from -> to", "receives", "sends"];
+    let rows = moves.iter().map(|m| row(parts, m));
+    let rows: Vec<Vec<String>> = std::iter::once(head(parts)).chain(rows).collect();
+    text + &legend(parts) + &show::aligned(&rows, &left(parts))
+}
+
+/// What is so before any step.
+pub fn opening(parts: &Parts) -> String {
+    let starts: String = parts.starts.iter().map(|state| format!(" {state}")).collect();
+    format!("{}\nboards start in states{starts}\n", show::setting(parts))
+}
+
+/// What the rows show.
+pub fn legend(parts: &Parts) -> String {
+    let chosen = if parts.form == Form::Message { "" } else { "senders are those that the translation chooses\n" };
+    let counts = show::counts_of(parts);
+    format!("after each step: what its board has ({counts}), and what was sent\n{chosen}\n")
+}
+
+// The columns that every trace has.
+fn words(parts: &Parts) -> Vec<&'static str> {
+    let mut words = vec!["step", "board", "rule", "from -> to", "receives", "sends"];
     if parts.form == Form::Counting {
-        head.insert(5, "tag");
+        words.insert(5, "tag");
     }
-    let left: Vec<usize> = (3..head.len()).collect();
-    let mut head: Vec<String> = head.into_iter().map(str::to_string).collect();
+    words
+}
+
+/// The columns' names.
+pub fn head(parts: &Parts) -> Vec<String> {
+    let mut head: Vec<String> = words(parts).into_iter().map(str::to_string).collect();
     for first in ["has ", "sent "] {
         head.extend((0..parts.types).map(|m| format!("{}type {m}", if m == 0 { first } else { "" })));
     }
-    let rows = moves.iter().map(|m| row(parts, m));
-    let rows: Vec<Vec<String>> = std::iter::once(head).chain(rows).collect();
-    let chosen = if parts.form == Form::Message { "" } else { "senders are those that the translation chooses\n" };
-    let counts = show::counts_of(parts);
-    text + &format!("after each step: what its board has ({counts}), and what was sent\n{chosen}\n")
-        + &show::aligned(&rows, &left)
+    head
 }
 
-fn row(parts: &Parts, m: &Move) -> Vec<String> {
+/// The columns of words, which are to the left.
+pub fn left(parts: &Parts) -> Vec<usize> {
+    (3..words(parts).len()).collect()
+}
+
+/// The row of a step.
+pub fn row(parts: &Parts, m: &Move) -> Vec<String> {
     let Step { board, rule, .. } = m.step;
     let (from, to) = parts.ends(rule).unwrap_or((0, 0));
     let mut cells = vec![m.number.to_string(), board.to_string(), rule.to_string()];
@@ -99,17 +139,21 @@ fn row(parts: &Parts, m: &Move) -> Vec<String> {
     cells
 }
 
-// For programs: `start`, then for each step its number, record and translated source, and the report's lines of its board and
-// of what was sent.
+// For programs: the line of the starts, then those of each step.
 fn lines(parts: &Parts, moves: &[Move]) -> String {
-    let mut text = "start".to_string();
-    text.extend(parts.starts.iter().map(|state| format!(" {state}")));
-    text += "\n";
-    for Move { number, step, other, after } in moves {
-        let [board, rule, kind, source] = step.record();
-        text += &format!("step {number} {board} {rule} {kind} {source} {}\n", other.source);
-        text += &show::board_line(after, usize::from(board));
-        text += &show::sent_line(after);
-    }
-    text
+    start_line(parts) + &moves.iter().map(lines_of).collect::<String>()
+}
+
+/// For programs: `start` and the start states.
+pub fn start_line(parts: &Parts) -> String {
+    let starts: String = parts.starts.iter().map(|state| format!(" {state}")).collect();
+    format!("start{starts}\n")
+}
+
+/// For programs: a step's number, record and translated source, and the report's lines of its board and of what was sent.
+pub fn lines_of(made: &Move) -> String {
+    let Move { number, step, other, after } = made;
+    let [board, rule, kind, source] = step.record();
+    let step = format!("step {number} {board} {rule} {kind} {source} {}\n", other.source);
+    step + &show::board_line(after, usize::from(board)) + &show::sent_line(after)
 }

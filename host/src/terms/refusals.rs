@@ -1,4 +1,4 @@
-//! The outline's table of refusals in words, with those of drawings.
+//! The outline's table of refusals in words, with those of drawings and logs.
 
 use std::error::Error;
 use std::fmt::{self, Display, Formatter};
@@ -8,7 +8,7 @@ use std::fmt::{self, Display, Formatter};
 pub struct Refusal {
     /// The number in the outline's table.
     pub number: u8,
-    /// The state, rule, board, step or byte; 0 where none is named.
+    /// The state, rule, board, step, line or byte; 0 where none is named.
     pub place: u32,
 }
 
@@ -51,6 +51,8 @@ pub enum Place {
     Step,
     /// A byte of a drawing's text.
     Byte,
+    /// A line of a log.
+    Line,
 }
 
 impl Place {
@@ -63,6 +65,7 @@ impl Place {
             Place::Board => Some("board"),
             Place::Step => Some("step"),
             Place::Byte => Some("byte"),
+            Place::Line => Some("line"),
         }
     }
 }
@@ -83,7 +86,7 @@ const fn line(number: u8, place: Place, when: &'static str) -> Line {
 }
 
 /// Every refusal, in the order of the checks.
-pub const ALL: [Line; 24] = [
+pub const ALL: [Line; 27] = [
     line(40, Place::None, "the input is over 17,392 bytes (report program only)"),
     line(10, Place::None, "the bundle is under 8 bytes"),
     line(11, Place::None, "the schedule's second distance plus 8 exceeds the bundle"),
@@ -112,6 +115,9 @@ pub const ALL: [Line; 24] = [
     ),
     line(14, Place::Board, "the board's start is not an initial state"),
     line(31, Place::None, "the form asked for is the bundle's own, or there is no such form"),
+    line(52, Place::None, "the bundle has steps, or is not in message form"),
+    line(51, Place::Line, "the log has more lines than a schedule has steps, 4,096"),
+    line(50, Place::Line, "the line has another shape, or a number over 254"),
     line(30, Place::None, "the lent output is shorter than what is needed"),
     line(61, Place::None, "the lent output is shorter than the drawing or its table"),
     line(20, Place::Step, "the board is not below n - f"),

@@ -7,7 +7,8 @@ use crate::terms::form::Form;
 #[derive(Clone, Debug, PartialEq, Eq)]
 pub struct Configuration {
     form: Form,
-    picture: Picture,
+    // Boxed, so that errors which carry a configuration are small.
+    picture: Box<Picture>,
     words: Vec<u64>,
 }
 
@@ -17,7 +18,7 @@ impl Configuration {
     pub fn of(bundle: &[u8], standing: &[u8], words: &[u64]) -> Option<Configuration> {
         let parts = Parts::of(bundle, standing)?;
         let words = words.get(..parts.words())?.to_vec();
-        Some(Configuration { form: parts.form, picture: parts.picture(&words), words })
+        Some(Configuration { form: parts.form, picture: Box::new(parts.picture(&words)), words })
     }
 
     /// The form of the bundle.

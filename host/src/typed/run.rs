@@ -16,26 +16,27 @@ pub struct Run {
     pub configuration: Configuration,
 }
 
-/// A run that is refused.
+/// A run that is refused, or a replay.
 #[derive(Clone, Debug, PartialEq, Eq)]
-pub struct Refused {
+pub struct Refused<B = Run> {
     /// Why, and where.
     pub refusal: Refusal,
-    /// The run of the steps before the refused one; `None` where no step was looked at, since the bundle itself is refused.
-    pub before: Option<Run>,
+    /// The run of the steps before the refused one, and of a replay the bundle besides; `None` where no step was looked at, since
+    /// the bundle or the log itself is refused.
+    pub before: Option<B>,
 }
 
-impl Display for Refused {
+impl<B> Display for Refused<B> {
     fn fmt(&self, to: &mut Formatter) -> fmt::Result {
         self.refusal.fmt(to)
     }
 }
 
-impl Error for Refused {}
+impl<B: fmt::Debug> Error for Refused<B> {}
 
 /// So that `?` gives the refusal alone where no more is asked for.
-impl From<Refused> for Refusal {
-    fn from(refused: Refused) -> Refusal {
+impl<B> From<Refused<B>> for Refusal {
+    fn from(refused: Refused<B>) -> Refusal {
         refused.refusal
     }
 }

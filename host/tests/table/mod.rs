@@ -25,6 +25,17 @@ pub struct Case {
     pub to: Vec<(u64, Vec<u8>)>,
     /// The first step after it.
     pub first: Option<First>,
+    /// Logs that are replayed over it.
+    pub logs: Vec<Log>,
+}
+
+/// A log that is replayed over a case.
+#[derive(Clone, Debug)]
+pub struct Log {
+    pub text: String,
+    pub answer: Answer,
+    /// The bundle that is written; empty where nothing is.
+    pub makes: Vec<u8>,
 }
 
 impl Case {
@@ -88,10 +99,22 @@ fn said(case: &mut Case, line: &str, named: &BTreeMap<&str, Vec<u8>>) {
             let (form, text) = rest.split_once(' ').unwrap_or_else(|| panic!("a form and bytes: {line}"));
             case.to.push((number(form), bytes(text, named)));
         }
+        "log" => case.logs.push(log(rest)),
+        "makes" => match case.logs.last_mut() {
+            Some(log) => log.makes = bytes(rest, named),
+            None => panic!("no log before: {line}"),
+        },
         "first" if rest == "none" => case.first = Some(Ok(None)),
         "first" => case.first = Some(Ok(Some(Step::of(numbers(rest))))),
         _ => panic!("no line of a case: {line}"),
     }
+}
+
+// The answer's three numbers, and then the text.
+fn log(said: &str) -> Log {
+    let words: Vec<&str> = said.splitn(4, ' ').collect();
+    let text = words.get(3).unwrap_or(&"").replace(';', "\n").replace('!', "\r");
+    Log { text, answer: answer(&words[..words.len().min(3)].join(" ")), makes: Vec::new() }
 }
 
 fn bytes(text: &str, named: &BTreeMap<&str, Vec<u8>>) -> Vec<u8> {

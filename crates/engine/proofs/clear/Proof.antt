@@ -5,7 +5,7 @@ use native.Mathlib.Omega.{arith}
 use borrow.Author.Needs.{needs}
 use lib.ListN.{length, getD, replicate, length-set, length-replicate, getD-replicate}
 use lib.Seq.{ext-getD}
-use Rattle.engine.proofs.RunLaws.{fills}
+use Rattle.fault.proofs.FillLaws.{fills}
 use Rattle.engine.proofs.clear.Statement.{statement}
 use Rattle.engine.proofs.clear.Tie as tie
 

@@ -5,7 +5,7 @@ use native.Mathlib.Omega.{arith}
 use borrow.Author.Needs.{needs}
 use lib.ListN.{length}
 use Rattle.fault.specs.Bytes.{byteAt}
-use Rattle.dot.specs.Numbers.{spelling}
+use Rattle.decimal.specs.Numbers.{spelling}
 use Rattle.dot.specs.Text.{numbersText}
 use Rattle.pen.specs.Pen.{alone}
 use Rattle.pen.proofs.PenLaws.{RestPut, rest-all}

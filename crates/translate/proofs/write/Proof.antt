@@ -19,14 +19,14 @@ write-spec =
     -- write-steps-requires
     (λ c κs. let at = c .before .before in let copied = at .before .before .before in let st = copied .before .before .before .before .before .before in
     let a = st .args in
-    (st .pre .0, st .pre .1, st .pre .2, st .pre .3, st .pre .4, steps-part (a .bundle .now) (st .pre .0 .trailed) (st .pre .0 .parted) (at .steps-at .ensures .0) (copied .copy .ensures) (length (a .bundle .now) - 8 - at .steps-at .result) (omega (arith, at .steps-at .ensures .1))))
+    (st .pre .0, st .pre .1, st .pre .2, st .pre .3, st .pre .4, steps-part (a .bundle .now) (st .pre .0 .parted) (at .steps-at .ensures .0) (copied .copy .ensures) (length (a .bundle .now) - 8 - at .steps-at .result) (omega (arith, at .steps-at .ensures .1))))
     (λ c. search needs) (λ c. search needs) (λ c. search needs) (λ c. search needs)
     -- same-length-2
     (λ c. let done = c .before .before .before .before in let at = done .before .before .before in let copied = at .before .before .before in
     let st = copied .before .before .before .before .before .before in let a = st .args in
     let T = st .pre .2 in
-    ap length (all-written (a .bundle .now) (st .pre .0 .trailed) (st .pre .0 .parted) (at .steps-at .ensures .0) (copied .copy .ensures) (movedBy (a .s) (a .bundle .now) (T .design) (a .form)) (a .form) (done .write-steps .ensures T)) ∙ rewritten-long (a .bundle .now) (st .pre .0 .trailed) (st .pre .0 .parted) (movedBy (a .s) (a .bundle .now) (T .design) (a .form)) (a .form) (moved-long (a .s .level) (a .form) (T .design) (beginOf (a .s) (a .bundle .now)) (scheduleOf (a .bundle .now))) ∙ sym (st .pre .5))
+    ap length (all-written (a .bundle .now) (st .pre .0 .parted) (at .steps-at .ensures .0) (copied .copy .ensures) (movedBy (a .s) (a .bundle .now) (T .design) (a .form)) (a .form) (done .write-steps .ensures T)) ∙ rewritten-long (a .bundle .now) (st .pre .0 .parted) (st .pre .0 .trailed) (movedBy (a .s) (a .bundle .now) (T .design) (a .form)) (a .form) (moved-long (a .s .level) (a .form) (T .design) (beginOf (a .s) (a .bundle .now)) (scheduleOf (a .bundle .now))) ∙ sym (st .pre .5))
     -- returns
     (λ c. let done = c .before .before .before .before in let at = done .before .before .before in let copied = at .before .before .before in
     let st = copied .before .before .before .before .before .before in let a = st .args in
-    λ (T : Runs (a .s) (a .ends .now) (a .bundle .now)). all-written (a .bundle .now) (st .pre .0 .trailed) (st .pre .0 .parted) (at .steps-at .ensures .0) (copied .copy .ensures) (movedBy (a .s) (a .bundle .now) (T .design) (a .form)) (a .form) (done .write-steps .ensures T)))
+    λ (T : Runs (a .s) (a .ends .now) (a .bundle .now)). all-written (a .bundle .now) (st .pre .0 .parted) (at .steps-at .ensures .0) (copied .copy .ensures) (movedBy (a .s) (a .bundle .now) (T .design) (a .form)) (a .form) (done .write-steps .ensures T)))

@@ -57,16 +57,27 @@ fn ends(dice: &mut Dice, states: &[u8], count: usize) -> (usize, usize) {
 pub fn bundle(dice: &mut Dice) -> Vec<u8> {
     let own = !dice.once_in(3);
     let table = if own && !dice.once_in(3) { table(dice) } else { ECHO.to_vec() };
-    bundle_for(dice, &table, own)
+    bundle_for(dice, &table, own, &FORMS)
 }
 
-// The same for a table, which is put in front or is to stand beside it.
-fn bundle_for(dice: &mut Dice, table: &[u8], own: bool) -> Vec<u8> {
+/// The same in message form, and a standing table beside it, which is of no meaning now and then where there is a front.
+pub fn in_message_form(dice: &mut Dice) -> (Vec<u8>, Vec<u8>) {
+    let own = dice.once_in(2);
+    let table = if dice.once_in(3) { ECHO.to_vec() } else { table(dice) };
+    let bundle = bundle_for(dice, &table, own, &FORMS[..1]);
+    (bundle, if own && dice.once_in(2) { noise(dice) } else { table })
+}
+
+// The numbers of the forms.
+const FORMS: [u8; 3] = [Form::Message as u8, Form::Counting as u8, Form::Plain as u8];
+
+// The same for a table, which is put in front or is to stand beside it, in one of some forms.
+fn bundle_for(dice: &mut Dice, table: &[u8], own: bool, forms: &[u8]) -> Vec<u8> {
     let factor = usize::from(table[table.len() - 1]);
     let n = if dice.once_in(4) { 64 } else { dice.between(1, 64) };
     let t = dice.between(0, (n - 1) / factor);
     let f = dice.between(0, t);
-    let form = dice.below(Form::ALL.len()) as u8;
+    let form = dice.one_of(forms);
     let initial: Vec<u8> = (0..table[table.len() - 4]).filter(|&s| table[2 * usize::from(s)] & 1 == 1).collect();
     let mut bytes = if own { table.to_vec() } else { Vec::new() };
     bytes.extend((0..n - f).map(|_| dice.one_of(&initial)));
@@ -95,6 +106,14 @@ pub fn with(bytes: &[u8], step: Step) -> Vec<u8> {
     let (before, trailer) = bytes.split_at(bytes.len() - 8);
     let distance = |at: usize| (u16::from_le_bytes([trailer[at], trailer[at + 1]]) + 4).to_le_bytes();
     [before, &step.record(), &distance(0), &distance(2), &trailer[4..]].concat()
+}
+
+/// The bundle without its steps, as its first distance tells them; it has at least its trailer and those.
+pub fn without_steps(bytes: &[u8]) -> Vec<u8> {
+    let (before, trailer) = bytes.split_at(bytes.len() - 8);
+    let distance = |at: usize| usize::from(u16::from_le_bytes([trailer[at], trailer[at + 1]]));
+    let (steps, starts) = (distance(0), distance(2) - distance(0));
+    [&before[..before.len() - steps], &[0, 0], &little_endian(starts), &trailer[4..]].concat()
 }
 
 /// A bundle that runs beside the echo table, in a form: as it is, or as a bench translates it.
@@ -242,16 +261,16 @@ pub fn case(dice: &mut Dice) -> (Vec<u8>, Vec<u8>) {
         // Without a front, beside a table of its own: sound, or with a fault.
         0..=1 => {
             let standing = table(dice);
-            (bundle_for(dice, &standing, false), standing)
+            (bundle_for(dice, &standing, false, &FORMS), standing)
         }
         2 => {
             let sound = table(dice);
-            (bundle_for(dice, &sound, false), faulty_table(dice))
+            (bundle_for(dice, &sound, false, &FORMS), faulty_table(dice))
         }
         // A front with a fault.
         3..=4 => {
             let sound = table(dice);
-            let schedule = bundle_for(dice, &sound, false);
+            let schedule = bundle_for(dice, &sound, false, &FORMS);
             ([faulty_table(dice), schedule].concat(), ECHO.to_vec())
         }
         // A standing table of no meaning, often not looked at.

@@ -22,7 +22,7 @@ pub fn reply(text: &[u8], standing: &[u8], path: Option<&Path>, plain: bool) -> 
         }
         Err(Wrong::Refused(answer, told)) => Reply::of(Vec::new(), answer, told, plain),
         Err(Wrong::Mistake(mistake)) => {
-            Reply { output: Vec::new(), told: Some(mistake.told(text, plain)), refused: true }
+            Reply { output: Vec::new(), told: Some(mistake.told(text, plain)), refused: true, kept: None }
         }
     }
 }

@@ -11,7 +11,7 @@ use std::path::Path;
 
 /// The text, which goes to `path`, or the refusal.
 pub fn reply(question: &Question, path: Option<&Path>) -> Reply {
-    let Question { bundle, standing, style } = *question;
+    let Question { bundle, standing, style, .. } = *question;
     let plain = style == Style::Plain;
     let answer = run(bundle, standing, &mut [0; MOST_WORDS]);
     match Parts::of(bundle, standing) {
@@ -47,7 +47,8 @@ fn drawing(front: &[u8]) -> Vec<u8> {
     drawing
 }
 
-fn line(form: Form, step: Step) -> String {
+/// The line of a step.
+pub fn line(form: Form, step: Step) -> String {
     let Step { board, rule, kind, source } = step;
     let message = if step.silent() { String::new() } else { format!(" type {kind}{}", from(form, source)) };
     format!("board {board} rule {rule}{message}\n")

@@ -1,0 +1,5 @@
+pub mod PieceLaws
+pub mod LineLaws
+pub mod LinesLaws
+pub mod LineExact
+pub mod LogExact

@@ -1,0 +1,4 @@
+pub mod Line
+pub mod Said
+pub mod Lines
+pub mod Cursor

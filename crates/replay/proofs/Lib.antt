@@ -1,0 +1,3 @@
+pub mod MadeLaws
+pub mod EntryLaws
+pub mod BoundLaws
