@@ -18,11 +18,11 @@ extern "C" {
 #define MACAROOSH_MOST_WORDS 580
 
 /* The most bytes that a bundle has. */
-#define MACAROOSH_MOST_BYTES 17392
+#define MACAROOSH_MOST_BYTES 17648
 
 /* The most bytes that a table part has, and those of its drawing. */
-#define MACAROOSH_MOST_TABLE 936
-#define MACAROOSH_MOST_DRAWING 5773
+#define MACAROOSH_MOST_TABLE 1192
+#define MACAROOSH_MOST_DRAWING 6286
 
 /* Runs a bundle. With C = n - f boards and T types the configuration is left in the lent words, of which
  * MACAROOSH_MOST_WORDS are always enough (`words_length` counts words, not bytes):
@@ -63,12 +63,13 @@ uint64_t macaroosh_first_step(const uint8_t *bundle, size_t bundle_length, const
  *   s0 [label="1 0"];          a line for each state: flags, sent mask
  *   s0 -> s0 [label="0 1 1"];  a line for each rule: a b d of each type, the types joined by ", "
  *   }
- * without blanks before a line; one line feed ends each. Answers packed: refusal (1 to 8, 61), place, bytes written. Any
- * refusal leaves the bytes as they were. Bytes past the written ones never change. */
+ * without blanks before a line; one line feed ends each. T is followed by the types byte; from 16 on, in the second edition, a
+ * label has a b d e of each type. Answers packed: refusal (1 to 9, 61), place, bytes written. Any refusal leaves the bytes as they
+ * were. Bytes past the written ones never change. */
 uint64_t macaroosh_draw(const uint8_t *table, size_t table_length, uint8_t *out, size_t out_length);
 
 /* Writes the table part that a text draws to the lent bytes, of which MACAROOSH_MOST_TABLE are always enough. Between two
- * tokens the text may have any spaces, tabs, line feeds and carriage returns. Answers packed: refusal (60, 2, 4 to 8, 61),
+ * tokens the text may have any spaces, tabs, line feeds and carriage returns. Answers packed: refusal (60, 2, 4 to 9, 61),
  * place, bytes written. Any refusal leaves the bytes as they were. Bytes past the written ones never change.
  * The place of 60 is the length of the longest beginning of the text that some drawing begins with: the first byte that is
  * wrong, or the text's length where the whole text could still go on. From 2^24 - 1 on it is given as that. */
@@ -93,7 +94,8 @@ uint64_t macaroosh_replay(const uint8_t *bundle, size_t bundle_length, const uin
  *    1 table part under 8 bytes                     2 a trailer count or k out of range
  *    3 distances disagree with counts or length     4 a state's flags or sent mask [state]
  *    5 no initial state                             6 from or to is no state [rule]
- *    7 the rule forgets a sent type [rule]          8 the rule sends two new types [rule]
+ *    9 a divisor is not 1 to 8 [rule]               7 the rule forgets a sent type [rule]
+ *    8 the rule sends two new types [rule]
  *   12 n, t, f not admitted, or form over 2        13 the schedule's distances
  *   14 a start is not an initial state [board]     31 its own form is asked for, or none (translate_to)
  *   52 the bundle has steps or is not in message form (replay)

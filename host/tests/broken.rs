@@ -1,11 +1,12 @@
 //! The comparison can fail: each broken bench differs from the library on some seeded bundle. The first five are the
-//! outline's slips that look harmless, the next four take waits wrongly, five more the plain form, six the form asked for; the
-//! others are what the outline asks to be caught.
+//! outline's slips that look harmless, the next four take waits wrongly, five more the plain form, six the form asked for, twelve
+//! the second edition of rules; the others are what the outline asks to be caught.
 
 use judge::compare::compare;
 use judge::dice::Dice;
 use judge::makers::bundles::case;
-use judge::model::{Bundle, Configuration, Messages, Model, Outline};
+use judge::model::{check_sent, sum, Bundle, Coefficients, Configuration, Edition, Messages};
+use judge::model::{Model, Outline, Rule, State, Table};
 use judge::{Bench, Library};
 use macaroosh::calls::{Answer, First, Step};
 use macaroosh::{Form, Refusal};
@@ -56,9 +57,10 @@ impl Outline for HearsItself {
 struct Unsigned;
 
 impl Outline for Unsigned {
-    fn threshold(&self, bundle: &Bundle, coefficients: [i8; 3]) -> i64 {
-        let [a, b, d] = coefficients.map(|c| i64::from(c as u8));
-        a * bundle.n as i64 + b * bundle.t as i64 + d
+    fn threshold(&self, bundle: &Bundle, Coefficients { a, b, d, e }: Coefficients) -> i64 {
+        let [a, b, d] = [a, b, d].map(|c| i64::from(c as u8));
+        let (sum, e) = (a * bundle.n as i64 + b * bundle.t as i64 + d, i64::from(e));
+        (sum + e - 1) / e
     }
 }
 
@@ -163,6 +165,90 @@ impl Outline for KeepsTags {
             return step;
         }
         Model.translated(from, other, reached, step)
+    }
+}
+
+// The quotient is rounded down, or towards 0, or up by one always.
+struct Rounded(fn(i64, i64) -> i64);
+
+impl Outline for Rounded {
+    fn threshold(&self, bundle: &Bundle, coefficients: Coefficients) -> i64 {
+        (self.0)(sum(bundle, coefficients), i64::from(coefficients.e))
+    }
+}
+
+// Other divisors are taken.
+struct Divisors(fn(u8) -> bool);
+
+impl Outline for Divisors {
+    fn divides(&self, e: u8) -> bool {
+        (self.0)(e)
+    }
+}
+
+// Each type is divided by what is meant for the next one.
+struct DivisorOfAnother;
+
+impl Outline for DivisorOfAnother {
+    fn coefficients(&self, rule: &[u8], edition: Edition, types: usize) -> Vec<Coefficients> {
+        let all = Model.coefficients(rule, edition, types);
+        (0..types).map(|m| Coefficients { e: all[(m + 1) % types].e, ..all[m] }).collect()
+    }
+}
+
+// Every rule is as long as in the first edition.
+struct FirstLength;
+
+impl Outline for FirstLength {
+    fn rule_size(&self, _edition: Edition, types: usize) -> usize {
+        Model.rule_size(Edition::First, types)
+    }
+
+    fn coefficients(&self, rule: &[u8], _edition: Edition, types: usize) -> Vec<Coefficients> {
+        Model.coefficients(rule, Edition::First, types)
+    }
+}
+
+// Of one rule, 9 is looked for after 7.
+struct NineAfterSeven;
+
+impl Outline for NineAfterSeven {
+    fn check_rule(&self, states: &[State], rule: &Rule) -> Result<(), u8> {
+        match Model.check_rule(states, rule) {
+            Err(9) if check_sent(states, rule) == Err(7) => Err(7),
+            checked => checked,
+        }
+    }
+}
+
+// Divisors are looked at before a rule's ends.
+struct NineBeforeSix;
+
+impl Outline for NineBeforeSix {
+    fn check_rule(&self, states: &[State], rule: &Rule) -> Result<(), u8> {
+        match rule.coefficients.iter().all(|coefficients| self.divides(coefficients.e)) {
+            true => Model.check_rule(states, rule),
+            false => Err(9),
+        }
+    }
+}
+
+// Divisors are looked at after all rules.
+struct DivisorsLast;
+
+impl Outline for DivisorsLast {
+    fn read_table(&self, part: &[u8]) -> Result<Table, Refusal> {
+        Divisors(|_| true).read_table(part)?;
+        Model.read_table(part)
+    }
+}
+
+// Of the types byte only the lowest five bits are looked at.
+struct TypesAtFiveBits;
+
+impl Outline for TypesAtFiveBits {
+    fn edition(&self, types_byte: usize) -> (Edition, usize) {
+        Edition::of(types_byte % 32)
     }
 }
 
@@ -312,7 +398,7 @@ fn place_lost(bundle: &[u8], standing: &[u8]) -> First {
 
 #[test]
 fn every_broken_bench_is_caught() {
-    let broken: [(&str, &dyn Bench); 29] = [
+    let broken: [(&str, &dyn Bench); 41] = [
         ("a joint count", &JointCount),
         ("thresholds before the receipt", &CountsBefore),
         ("hears its own echo at once", &HearsItself),
@@ -333,6 +419,18 @@ fn every_broken_bench_is_caught() {
         ("its own form before reading", &But { translate_to: own_form_first, ..SOUND }),
         ("the form after the room", &But { translate_to: form_after_room, ..SOUND }),
         ("its own form copied", &But { translate_to: copies_its_own, ..SOUND }),
+        ("rounding down", &Rounded(|sum, e| sum.div_euclid(e))),
+        ("rounding towards 0", &Rounded(|sum, e| sum / e)),
+        ("one more than rounded down", &Rounded(|sum, e| sum.div_euclid(e) + 1)),
+        ("e = 9 is taken", &Divisors(|e| (1..=9).contains(&e))),
+        ("e = 8 is refused", &Divisors(|e| (1..=7).contains(&e))),
+        ("e as a signed byte", &Divisors(|e| e != 0 && e as i8 <= 8)),
+        ("e of another type", &DivisorOfAnother),
+        ("rules as long as in the first edition", &FirstLength),
+        ("9 after 7", &NineAfterSeven),
+        ("9 before 6", &NineBeforeSix),
+        ("9 after all rules", &DivisorsLast),
+        ("the types byte at five bits", &TypesAtFiveBits),
         ("refuses everything", &But { run: refuses_all, ..SOUND }),
         ("an idle body", &But { run: idle_run, ..SOUND }),
         ("one step, then only counts", &But { run: counted_up, ..SOUND }),

@@ -5,9 +5,10 @@ use judge::compare::{compare_draw, compare_undraw};
 use judge::dice::Dice;
 use judge::drawings::{Drawing, Text};
 use judge::makers::sketches;
-use judge::model::{Model, Rule};
+use judge::model::{Coefficients, Edition, Model, Outline, Rule, Table};
 use judge::{Draws, Library};
 use macaroosh::calls::Answer;
+use macaroosh::Refusal;
 use std::ops::RangeInclusive;
 
 // The first seed whose table or text shows the difference.
@@ -139,6 +140,67 @@ impl Text for Backwards {
     }
 }
 
+// `T=` shows T in both editions.
+struct TypesAlone;
+
+impl Text for TypesAlone {
+    fn text(&self, drawing: &Drawing) -> String {
+        let (_, types) = drawing.edition();
+        Model.text(drawing).replacen(&format!("T={};", drawing.types_byte), &format!("T={types};"), 1)
+    }
+}
+
+// Divisors are not drawn.
+struct NoDivisors;
+
+impl Text for NoDivisors {
+    fn group(&self, _edition: Edition, coefficients: &Coefficients) -> String {
+        Model.group(Edition::First, coefficients)
+    }
+}
+
+// Every label has divisors.
+struct AlwaysDivisors;
+
+impl Text for AlwaysDivisors {
+    fn group(&self, _edition: Edition, coefficients: &Coefficients) -> String {
+        Model.group(Edition::Second, coefficients)
+    }
+}
+
+// What an e may be as form: a signed byte, or what a table may have.
+struct DivisorsAs(RangeInclusive<i32>);
+
+impl Text for DivisorsAs {
+    fn divisors(&self) -> RangeInclusive<i32> {
+        self.0.clone()
+    }
+}
+
+// e = 9 is taken.
+struct TakesNine;
+
+impl Outline for TakesNine {
+    fn divides(&self, e: u8) -> bool {
+        (1..=9).contains(&e)
+    }
+}
+
+impl Text for TakesNine {
+    fn read_part(&self, part: &[u8]) -> Result<Table, Refusal> {
+        self.read_table(part)
+    }
+}
+
+// The second edition is not known.
+struct FirstAlone;
+
+impl Text for FirstAlone {
+    fn counts_fit(&self, counts: [usize; 4]) -> bool {
+        counts[2] < 16 && Model.counts_fit(counts)
+    }
+}
+
 // The model, but for one of its calls.
 struct But {
     draw: fn(&[u8], &mut [u8]) -> Answer,
@@ -248,7 +310,7 @@ fn only_states_that_are(text: &[u8], out: &mut [u8]) -> Answer {
 
 #[test]
 fn every_broken_drawing_is_caught() {
-    let broken: [(&str, &dyn Draws); 27] = [
+    let broken: [(&str, &dyn Draws); 34] = [
         ("leading zeros", &LeadingZeros),
         ("minus zero", &MinusZero),
         ("a plus", &Plus),
@@ -263,6 +325,13 @@ fn every_broken_drawing_is_caught() {
         ("no last line feed", &NoLastLineFeed),
         ("groups not apart", &Joined),
         ("rules backwards", &Backwards),
+        ("T= shows T", &TypesAlone),
+        ("divisors not drawn", &NoDivisors),
+        ("divisors always drawn", &AlwaysDivisors),
+        ("e as a signed byte", &DivisorsAs(-128..=127)),
+        ("e from 1 to 8 as form", &DivisorsAs(1..=8)),
+        ("e = 9 is taken", &TakesNine),
+        ("the second edition refused", &FirstAlone),
         ("refuses everything", &But { draw: refuses_all, ..SOUND }),
         ("refuses every text", &But { undraw: refuses_all, ..SOUND }),
         ("an idle body", &But { undraw: idle, ..SOUND }),

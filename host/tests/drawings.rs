@@ -5,7 +5,7 @@ use judge::compare::{compare_draw, compare_undraw};
 use judge::dice::{each_seed, seeds, Dice};
 use judge::drawings::{Drawing, Text};
 use judge::makers::sketches;
-use judge::model::{read_table, Model, Rule};
+use judge::model::{read_table, Coefficients, Edition, Model, Rule};
 use judge::{Draws, Library};
 use macaroosh::calls::Answer;
 use macaroosh::{ECHO, MOST_DRAWING, MOST_TABLE};
@@ -26,6 +26,24 @@ s1 -> s2 [label=\"0 0 0\"];
 s2 -> s2 [label=\"0 0 0\"];
 s2 -> s3 [label=\"1 -1 0\"];
 s3 -> s3 [label=\"0 0 0\"];
+}
+";
+
+const MAJORITY: &[u8; 58] = include_bytes!("../../examples/majority.table");
+
+const MAJORITY_DRAWN: &str = "digraph t {
+T=17; k=3;
+s0 [label=\"1 0\"];
+s1 [label=\"1 0\"];
+s2 [label=\"0 1\"];
+s3 [label=\"2 1\"];
+s0 -> s0 [label=\"0 0 0 1\"];
+s0 -> s2 [label=\"0 1 1 1\"];
+s0 -> s3 [label=\"1 1 1 2\"];
+s1 -> s2 [label=\"0 0 0 1\"];
+s2 -> s2 [label=\"0 0 0 1\"];
+s2 -> s3 [label=\"1 1 1 2\"];
+s3 -> s3 [label=\"0 0 0 1\"];
 }
 ";
 
@@ -76,27 +94,60 @@ fn the_echo_table_is_drawn_to_the_byte() {
     }
 }
 
+#[test]
+fn a_table_of_the_second_edition_is_drawn_to_the_byte() {
+    for (who, drawer) in DRAWERS {
+        assert_eq!(drawn(drawer, MAJORITY), Ok(MAJORITY_DRAWN.as_bytes().to_vec()), "{who}");
+        assert_eq!(undrawn(drawer, MAJORITY_DRAWN.as_bytes()), Ok(MAJORITY.to_vec()), "{who}");
+    }
+}
+
 // A drawing with so many states and rules; every number is as long as it can be in a table.
-fn wide(states: usize, rules: usize, types: usize, factor: usize) -> Drawing {
+fn wide(states: usize, rules: usize, types_byte: usize, factor: usize) -> Drawing {
+    let (edition, types) = Edition::of(types_byte);
     let mut all = vec![[2, (1u32 << types.min(4)) as u8 - 1]; states];
     if let Some(state) = all.get_mut(0) {
         *state = [3, 0];
     }
     let last = states.max(1) - 1;
-    let rule = Rule { from: last, to: last, coefficients: vec![[-128; 3]; types] };
-    Drawing { types, factor, states: all, rules: vec![rule; rules] }
+    let e = if edition == Edition::Second { 8 } else { 1 };
+    let rule = Rule { from: last, to: last, coefficients: vec![Coefficients::over(e, [-128; 3]); types] };
+    Drawing { types_byte, factor, states: all, rules: vec![rule; rules] }
+}
+
+#[test]
+fn the_longest_drawings() {
+    let cases = [(4, "-128 -128 -128", 5_773, 936), (20, "-128 -128 -128 8", MOST_DRAWING, MOST_TABLE)];
+    assert_eq!((MOST_DRAWING, MOST_TABLE), (6_286, 1_192));
+    for (types_byte, group, longest, bytes) in cases {
+        let table = wide(16, 64, types_byte, 8).bytes();
+        assert_eq!(table.len(), bytes);
+        for (who, drawer) in DRAWERS {
+            let text = drawn(drawer, &table).expect("a drawing");
+            assert_eq!(text.len(), longest, "{who}");
+            let text = String::from_utf8(text).expect("text");
+            assert_eq!(text.lines().nth(1), Some(&*format!("T={types_byte}; k=8;")), "{who}");
+            assert_eq!(text.lines().nth(17), Some("s15 [label=\"2 15\"];"), "{who}");
+            let label = [group; 4].join(", ");
+            assert_eq!(text.lines().nth(81), Some(&*format!("s15 -> s15 [label=\"{label}\"];")), "{who}");
+        }
+    }
 }
 
 #[test]
 fn limits_pass_and_one_more_does_not() {
-    let largest = wide(16, 64, 4, 8);
-    let text = Model.text(&largest);
-    assert_eq!((text.len(), largest.bytes().len()), (MOST_DRAWING, MOST_TABLE));
-    assert_eq!(text.lines().nth(17), Some("s15 [label=\"2 15\"];"));
-    let group = "-128 -128 -128";
-    assert_eq!(text.lines().nth(81), Some(&*format!("s15 -> s15 [label=\"{group}, {group}, {group}, {group}\"];")));
     for (who, drawer) in DRAWERS {
-        for drawing in [&largest, &wide(1, 1, 1, 1), &wide(16, 1, 4, 1), &wide(1, 64, 1, 8)] {
+        let inside = [
+            wide(16, 64, 4, 8),
+            wide(16, 64, 20, 8),
+            wide(1, 1, 1, 1),
+            wide(1, 1, 17, 1),
+            wide(16, 1, 4, 1),
+            wide(16, 1, 20, 1),
+            wide(1, 64, 1, 8),
+            wide(1, 64, 17, 8),
+        ];
+        for drawing in &inside {
             let (text, table) = (Model.text(drawing).into_bytes(), drawing.bytes());
             assert_eq!(drawn(drawer, &table).as_ref(), Ok(&text), "{who}");
             assert_eq!(undrawn(drawer, &text).as_ref(), Ok(&table), "{who}");
@@ -116,9 +167,12 @@ fn limits_pass_and_one_more_does_not() {
             wide(256, 257, 1, 1),
             wide(1, 257, 1, 1),
             wide(1, 1_000, 255, 1),
+            wide(16, 65, 20, 8),
+            wide(17, 64, 20, 8),
         ];
-        for drawing in outside {
-            let counts = [drawing.states.len(), drawing.rules.len(), drawing.types, drawing.factor];
+        let types_bytes = (0..=255).filter(|types_byte| !matches!(types_byte, 1..=4 | 17..=20));
+        for drawing in outside.into_iter().chain(types_bytes.map(|types_byte| wide(1, 1, types_byte, 1))) {
+            let counts = [drawing.states.len(), drawing.rules.len(), drawing.types_byte, drawing.factor];
             assert_eq!(undrawn(drawer, Model.text(&drawing).as_bytes()), Err((2, 0)), "{who}: {counts:?}");
         }
     }
@@ -127,8 +181,8 @@ fn limits_pass_and_one_more_does_not() {
 #[test]
 fn every_beginning_goes_on() {
     let tokens = sketches::tokens(ECHO_DRAWN);
-    let largest = Model.text(&wide(16, 64, 4, 8));
-    for text in [ECHO_DRAWN, &close_set(&tokens, 3, " \r\n\t"), &largest] {
+    let largest = Model.text(&wide(16, 64, 20, 8));
+    for text in [ECHO_DRAWN, MAJORITY_DRAWN, &close_set(&tokens, 3, " \r\n\t"), &largest] {
         let whole = text.find('}').expect("the end") + 1;
         for (who, drawer) in DRAWERS {
             for length in 0..whole {
@@ -144,13 +198,18 @@ fn every_beginning_goes_on() {
 
 #[test]
 fn blanks_may_stand_in_every_gap_and_nowhere_else() {
-    let tokens = sketches::tokens(ECHO_DRAWN);
+    blanks_may_stand(ECHO_DRAWN, &ECHO);
+    blanks_may_stand(MAJORITY_DRAWN, MAJORITY);
+}
+
+fn blanks_may_stand(drawing: &str, table: &[u8]) {
+    let tokens = sketches::tokens(drawing);
     assert_eq!(tokens.len(), 12 + 4 * 7 + 7 * 9);
     for (who, drawer) in DRAWERS {
         for gap in 0..=tokens.len() {
             for blank in ["", " ", "\t", "\n", "\r", "\r\n", " \t\n\r  \r\n\t"] {
                 let text = close_set(&tokens, gap, blank);
-                assert_eq!(undrawn(drawer, text.as_bytes()), Ok(ECHO.to_vec()), "{who}: {text}");
+                assert_eq!(undrawn(drawer, text.as_bytes()), Ok(table.to_vec()), "{who}: {text}");
             }
         }
         // Inside a token; a space would be right in a label now and then.
@@ -158,7 +217,9 @@ fn blanks_may_stand_in_every_gap_and_nowhere_else() {
             for (inside, blank) in (1..token.len()).flat_map(|inside| [(inside, "\t"), (inside, "\n"), (inside, "\r")])
             {
                 let mut tokens = tokens.clone();
-                let place = close_set(&tokens[..i], 0, "").len() + inside;
+                // A number that is cut in two is one up to the blank, and goes on no further.
+                let number = token.bytes().all(|byte| byte.is_ascii_digit());
+                let place = close_set(&tokens[..i], 0, "").len() + inside + usize::from(number);
                 tokens[i].insert_str(inside, blank);
                 let text = close_set(&tokens, 0, "");
                 assert_eq!(undrawn(drawer, text.as_bytes()), Err((60, place as u32)), "{who}: {text}");
@@ -168,7 +229,7 @@ fn blanks_may_stand_in_every_gap_and_nowhere_else() {
 }
 
 // Each is wrong from its mark on.
-const WRONG: [&str; 73] = [
+const WRONG: [&str; 91] = [
     "^",
     "^x",
     "^Digraph t{T=1;k=3;}",
@@ -242,6 +303,25 @@ const WRONG: [&str; 73] = [
     r#"digraph t{T=2;k=3;s0->s0[label="0 0 0^ , 0 0 0"];}"#,
     r#"digraph t{T=0;k=3;s0->s0[label="^0 0 0"];}"#,
     r#"digraph t{T=1;k=3;s0->s0[label="^"];}"#,
+    // Groups of four from 16 on, whose fourth number is a byte.
+    r#"digraph t{T=15;k=3;s0->s0[label="0 0 0^ 1"];}"#,
+    r#"digraph t{T=16;k=3;s0->s0[label="^0 0 0 1"];}"#,
+    r#"digraph t{T=17;k=3;s0->s0[label="^"];}"#,
+    r#"digraph t{T=17;k=3;s0->s0[label="0 0 0^"];}"#,
+    r#"digraph t{T=17;k=3;s0->s0[label="0 0 0^, 0 0 0"];}"#,
+    r#"digraph t{T=17;k=3;s0->s0[label="0 0 0 ^ 1"];}"#,
+    r#"digraph t{T=17;k=3;s0->s0[label="0 0 0 1^ "];}"#,
+    r#"digraph t{T=17;k=3;s0->s0[label="0 0 0 1^ 1"];}"#,
+    r#"digraph t{T=17;k=3;s0->s0[label="0 0 0 1^, 0 0 0 1"];}"#,
+    r#"digraph t{T=17;k=3;s0->s0[label="0 0 0 ^-1"];}"#,
+    r#"digraph t{T=17;k=3;s0->s0[label="0 0 0 0^1"];}"#,
+    r#"digraph t{T=17;k=3;s0->s0[label="0 0 0 25^6"];}"#,
+    r#"digraph t{T=17;k=3;s0->s0[label="0 0 12^8 1"];}"#,
+    r#"digraph t{T=17;k=3;s0->s0[label="127 -128 -12^9 1"];}"#,
+    r#"digraph t{T=18;k=3;s0->s0[label="0 0 0 1^"];}"#,
+    r#"digraph t{T=18;k=3;s0->s0[label="0 0 0 1, 0 0 0^"];}"#,
+    r#"digraph t{T=18;k=3;s0->s0[label="0 0 0 1,^0 0 0 1"];}"#,
+    r#"digraph t{T=1 ^7;k=3;s0->s0[label="0 0 0 1"];}"#,
 ];
 
 #[test]
@@ -256,11 +336,17 @@ fn a_refusal_points_at_the_byte() {
 
 #[test]
 fn a_byte_that_no_drawing_has_is_pointed_at() {
+    for drawing in [ECHO_DRAWN, MAJORITY_DRAWN] {
+        a_stray_byte_is_pointed_at(drawing);
+    }
+}
+
+fn a_stray_byte_is_pointed_at(drawing: &str) {
     let known = b"digrapht{}Tk=;s[]label\"->, 0123456789\t\n\r";
     for (who, drawer) in DRAWERS {
-        for (at, stray) in (0..=ECHO_DRAWN.len()).flat_map(|at| (0..=255).map(move |stray| (at, stray))) {
+        for (at, stray) in (0..=drawing.len()).flat_map(|at| (0..=255).map(move |stray| (at, stray))) {
             if !known.contains(&stray) {
-                let mut text = ECHO_DRAWN.as_bytes().to_vec();
+                let mut text = drawing.as_bytes().to_vec();
                 text.insert(at, stray);
                 assert_eq!(undrawn(drawer, &text), Err((60, at as u32)), "{who}: byte {stray} at {at}");
             }
@@ -270,12 +356,13 @@ fn a_byte_that_no_drawing_has_is_pointed_at() {
 
 #[test]
 fn both_agree_on_every_change_of_one_byte() {
-    // The second has two types, so that groups are joined.
+    // The second has two types, so that groups are joined; the third has divisors besides.
     let two = r#"digraph t{T=2;k=3;s0[label="1 0"];s1[label="2 2"];s0->s1[label="-12 12 25, 0 1 -9"];}"#;
+    let divided = r#"digraph t{T=18;k=3;s0[label="1 0"];s1[label="2 2"];s0->s1[label="-12 12 25 8, 0 1 -9 2"];}"#;
     let agree = |text: &[u8]| {
         assert_eq!(undrawn(&Model, text), undrawn(&Library, text), "{}", String::from_utf8_lossy(text));
     };
-    for text in [ECHO_DRAWN, two] {
+    for text in [ECHO_DRAWN, two, divided] {
         for at in 0..=text.len() {
             let (before, after) = text.as_bytes().split_at(at);
             let others = after.get(1..).unwrap_or(&[]);
@@ -288,24 +375,26 @@ fn both_agree_on_every_change_of_one_byte() {
     }
 }
 
-// The number after the first `=`, which is T, or 1.
-fn types(text: &[u8]) -> usize {
+// The number after the first `=`, which is the types byte, or 1.
+fn types_byte(text: &[u8]) -> usize {
     let after = text.iter().skip_while(|&&byte| byte != b'=').skip(1).skip_while(|byte| byte.is_ascii_whitespace());
     let digits: String = after.take_while(|byte| byte.is_ascii_digit()).map(|&byte| char::from(byte)).collect();
     digits.parse().unwrap_or(1)
 }
 
-// Ways for a text to end: what a small drawing of so many types ends with. One of them makes a drawing of a text that some
+// Ways for a text to end: what a small drawing of that types byte ends with. One of them makes a drawing of a text that some
 // drawing begins with.
-fn ends(types: usize) -> Vec<String> {
-    let label = vec!["1 1 1"; types].join(", ");
-    let text = format!("digraph t{{T={types};k=1;s0[label=\"1 0\"];s0->s0[label=\"{label}\"];}}");
+fn ends(types_byte: usize) -> Vec<String> {
+    let (edition, types) = Edition::of(types_byte);
+    let group = if edition == Edition::First { "1 1 1" } else { "1 1 1 1" };
+    let label = vec![group; types].join(", ");
+    let text = format!("digraph t{{T={types_byte};k=1;s0[label=\"1 0\"];s0->s0[label=\"{label}\"];}}");
     (0..=text.len()).map(|at| text[at..].to_string()).collect()
 }
 
 fn can_end(who: &dyn Draws, text: &[u8]) -> bool {
     let is_drawing = |text: &[u8]| !matches!(undrawn(who, text), Err((60, _)));
-    ends(types(text)).iter().any(|end| is_drawing(&[text, end.as_bytes()].concat()))
+    ends(types_byte(text)).iter().any(|end| is_drawing(&[text, end.as_bytes()].concat()))
 }
 
 #[test]
@@ -339,6 +428,25 @@ fn checks_go_in_their_order() {
         (r#"digraph t{T=1;k=3;s0[label="1 0"];s1[label="0 1"];s0->s2[label="0 0 0"];s1->s0[label="0 0 0"];}"#, (6, 0)),
         (r#"digraph t{T=1;k=3;s0[label="1 0"];s1[label="0 1"];s1->s0[label="0 0 0"];s0->s2[label="0 0 0"];}"#, (7, 0)),
         (r#"digraph t{T=2;k=3;s0[label="1 0"];s1[label="0 3"];s0->s1[label="0 0 0, 0 0 0"];}"#, (8, 0)),
+        (r#"digraph t{T=16;k=3;s0[label="9 9"];s0->s9[label=""];}"#, (2, 0)),
+        (r#"digraph t{T=21;k=3;s0[label="9 9"];}"#, (2, 0)),
+        (r#"digraph t{T=17;k=3;s0[label="2 0"];s0->s9[label="0 0 0 9"];}"#, (5, 0)),
+        (r#"digraph t{T=17;k=3;s0[label="1 0"];s0->s9[label="0 0 0 9"];}"#, (6, 0)),
+        (
+            r#"digraph t{T=17;k=3;s0[label="1 0"];s1[label="0 1"];s1->s0[label="0 0 0 9"];s0->s9[label="0 0 0 1"];}"#,
+            (9, 0),
+        ),
+        (
+            r#"digraph t{T=17;k=3;s0[label="1 0"];s1[label="0 1"];s1->s0[label="0 0 0 0"];s0->s9[label="0 0 0 1"];}"#,
+            (9, 0),
+        ),
+        (
+            r#"digraph t{T=17;k=3;s0[label="1 0"];s1[label="0 1"];s1->s0[label="0 0 0 8"];s0->s9[label="0 0 0 9"];}"#,
+            (7, 0),
+        ),
+        (r#"digraph t{T=18;k=3;s0[label="1 0"];s1[label="0 3"];s0->s1[label="0 0 0 1, 0 0 0 255"];}"#, (9, 0)),
+        (r#"digraph t{T=18;k=3;s0[label="1 0"];s1[label="0 3"];s0->s1[label="0 0 0 1, 0 0 0 8"];}"#, (8, 0)),
+        (r#"digraph t{T=18;k=3;s0[label="1 0"];s1[label="0 2"];s0->s1[label="0 0 0 1, 0 0 0 8"];}"#, (61, 0)),
         (r#"digraph t{T=2;k=3;s0[label="1 0"];s1[label="0 2"];s0->s1[label="0 0 0, 0 0 0"];}"#, (61, 0)),
     ];
     for (who, drawer) in DRAWERS {
@@ -348,9 +456,9 @@ fn checks_go_in_their_order() {
             }
         }
         // The last of them has 2 states, a rule of 8 bytes and a trailer.
-        let table = written(20, |lent| drawer.undraw(cases[10].0.as_bytes(), lent)).expect("a table");
+        let table = written(20, |lent| drawer.undraw(cases[cases.len() - 1].0.as_bytes(), lent)).expect("a table");
         assert_eq!(table, [1, 0, 0, 2, 0, 1, 0, 0, 0, 0, 0, 0, 12, 0, 8, 0, 2, 1, 2, 3], "{who}");
-        // 1 to 8 come before 61 in drawing too.
+        // 1 to 9 come before 61 in drawing too.
         assert_eq!(written(0, |lent| drawer.draw(&ECHO[1..], lent)), Err((3, 0)), "{who}");
         assert_eq!(written(279, |lent| drawer.draw(&ECHO, lent)), Err((61, 0)), "{who}");
         assert_eq!(written(280, |lent| drawer.draw(&ECHO, lent)), Ok(ECHO_DRAWN.as_bytes().to_vec()), "{who}");
@@ -417,7 +525,7 @@ fn agree_on_seeds(refusals: &[u8], compared: impl Fn(&mut Dice) -> (Vec<u8>, Res
 
 #[test]
 fn the_library_draws_as_the_model_does() {
-    agree_on_seeds(&[0, 1, 2, 3, 4, 5, 6, 7, 8, 61], |dice| {
+    agree_on_seeds(&[0, 1, 2, 3, 4, 5, 6, 7, 8, 9, 61], |dice| {
         let table = sketches::table(dice);
         let compared = compare_draw(&Model, &Library, &table, dice);
         (table, compared)
@@ -426,7 +534,7 @@ fn the_library_draws_as_the_model_does() {
 
 #[test]
 fn the_library_undraws_as_the_model_does() {
-    agree_on_seeds(&[0, 2, 4, 5, 6, 7, 8, 60, 61], |dice| {
+    agree_on_seeds(&[0, 2, 4, 5, 6, 7, 8, 9, 60, 61], |dice| {
         let text = sketches::text(dice);
         let compared = compare_undraw(&Model, &Library, &text, dice);
         (text, compared)

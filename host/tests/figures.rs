@@ -5,9 +5,10 @@ mod reporter;
 mod table;
 
 use judge::fast::Fast;
-use judge::model::{read, report, Model, Outline};
+use judge::makers::bundles::closed;
+use judge::model::{read, report, Bundle, Coefficients, Model, Outline};
 use judge::{Bench, Library, Replays};
-use macaroosh::calls::{Answer, First};
+use macaroosh::calls::{Answer, First, Step};
 use macaroosh::{Form, Refusal, ECHO, MOST_BYTES};
 use reporter::reported;
 use table::{case, cases};
@@ -215,23 +216,74 @@ fn too_little_room_is_refused_before_a_step() {
     }
 }
 
+// The thresholds of a bundle's rules for type 0.
+fn thresholds(bundle: &Bundle) -> Vec<i64> {
+    bundle.table.rules.iter().map(|rule| Model.threshold(bundle, rule.coefficients[0])).collect()
+}
+
 #[test]
 fn thresholds_are_exact_at_both_ends() {
     let threshold = |starts: &[u8], numbers: [u8; 4], coefficients| {
         let bundle = [starts, &[0, 0, starts.len() as u8, 0], &numbers].concat();
-        Model.threshold(&read(&bundle, &ECHO).expect("a bundle"), coefficients)
+        Model.threshold(&read(&bundle, &ECHO).expect("a bundle"), Coefficients::whole(coefficients))
     };
     for (coefficients, of_four, of_one) in [([0, 1, 1], 2, 1), ([1, -1, 0], 3, 1)] {
         assert_eq!(threshold(&[1, 1, 1], [4, 1, 1, 0], coefficients), of_four);
         assert_eq!(threshold(&[1], [1, 0, 0, 0], coefficients), of_one);
     }
-    let bundle = read(&case("P2, the least threshold").bundle, &[]).expect("a bundle");
-    let thresholds: Vec<i64> = bundle.table.rules.iter().map(|r| Model.threshold(&bundle, r.coefficients[0])).collect();
-    assert_eq!(thresholds, [-16_384, 16_256]);
+    for (name, expected) in [
+        ("P2, the least threshold", &[-16_384, 16_256][..]),
+        ("the least threshold over 8", &[-2_048, 2_032]),
+        ("sums of -1 to 1 over 2", &[0, -1, 1, 0]),
+        ("more than half, n + t even", &[0, 2, 4, 0, 0, 4, 0]),
+        ("more than half, n + t odd", &[0, 2, 3, 0, 0, 3, 0]),
+    ] {
+        assert_eq!(thresholds(&read(&case(name).bundle, &[]).expect("a bundle")), expected, "{name}");
+    }
+}
+
+// One correct board and 63 faulty ones, n = 64, t = 63: the board hears so many of them by rule 0, and then takes rule 1, which
+// asks for that sum over e.
+fn after_hearing(heard: u8, sum: i32, e: u8) -> Vec<u8> {
+    let (a, d) = (sum.div_euclid(64) as u8, sum.rem_euclid(64) as u8);
+    let table = [1, 0, 0, 0, 0, 0, 0, 1, 0, 0, a, 0, d, e, 14, 0, 12, 0, 1, 2, 17, 1, 0];
+    let hears = (1..=heard).map(|source| Step { board: 0, rule: 0, kind: 0, source });
+    let steps: Vec<Step> = hears.chain([Step { board: 0, rule: 1, kind: 255, source: 255 }]).collect();
+    closed(&table, &steps, 1, [64, 63, 63, 0])
+}
+
+#[test]
+fn every_quotient_is_rounded_up() {
+    for e in 1..=8 {
+        for sum in -2 * i32::from(e)..=63 * i32::from(e) {
+            let asked = (0..=63).find(|count| count * i32::from(e) >= sum).expect("a count") as u8;
+            for (who, bench) in BENCHES {
+                let run = |heard| bench.run(&after_hearing(heard, sum, e), &[], &mut [0; 3]);
+                let all = u32::from(asked) + 1;
+                assert_eq!(run(asked), answer((0, 0, all)), "{who}: {sum}/{e}");
+                if let Some(fewer) = asked.checked_sub(1) {
+                    assert_eq!(run(fewer), answer((25, all - 2, all - 2)), "{who}: {sum}/{e}");
+                }
+            }
+        }
+    }
+}
+
+#[test]
+fn the_examples_are_cases_of_the_table() {
+    let examples: [(&str, &[u8]); 3] = [
+        ("W", include_bytes!("../../examples/w.bundle")),
+        ("more than half, n + t even", include_bytes!("../../examples/majority.bundle")),
+        ("half alone, n + t even", include_bytes!("../../examples/half.bundle")),
+    ];
+    for (name, bytes) in examples {
+        assert_eq!(case(name).bundle, bytes, "{name}");
+    }
 }
 
 #[test]
 fn the_largest_bundle_has_the_most_bytes() {
     assert_eq!(case("the largest bundle").bundle.len(), MOST_BYTES);
-    assert_eq!(case("17,393 bytes").bundle.len(), MOST_BYTES + 1);
+    assert_eq!(case("17,649 bytes").bundle.len(), MOST_BYTES + 1);
+    assert_eq!(case("the largest bundle of the first edition").bundle.len(), 17_392);
 }

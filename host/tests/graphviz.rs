@@ -5,7 +5,7 @@ use judge::dice::Dice;
 use judge::drawings::Drawing;
 use judge::makers::bundles::table;
 use judge::makers::sketches;
-use judge::model::Rule;
+use judge::model::{Coefficients, Rule};
 use macaroosh::calls::draw;
 use macaroosh::{ECHO, MOST_DRAWING};
 use std::io::Write;
@@ -51,9 +51,10 @@ fn dot_shows_every_state_and_rule() {
         let table = table(&mut Dice::new(seed));
         shows(&drawing(&table), &table);
     }
-    // 16 states in a ring, 64 rules, 4 types.
-    let rule = |r: usize| Rule { from: r % 16, to: (r + 1) % 16, coefficients: vec![[-128, 127, 0]; 4] };
-    let largest = Drawing { types: 4, factor: 8, states: vec![[1, 0]; 16], rules: (0..64).map(rule).collect() };
+    // 16 states in a ring, 64 rules, 4 types with divisors.
+    let coefficients = vec![Coefficients::over(8, [-128, 127, 0]); 4];
+    let rule = |r: usize| Rule { from: r % 16, to: (r + 1) % 16, coefficients: coefficients.clone() };
+    let largest = Drawing { types_byte: 20, factor: 8, states: vec![[1, 0]; 16], rules: (0..64).map(rule).collect() };
     shows(&drawing(&largest.bytes()), &largest.bytes());
 }
 

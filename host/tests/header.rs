@@ -1,6 +1,8 @@
 //! The calls that Rust declares are those of the C header: the same names, parameters in the same order, and the same types.
-//! The linker looks at names only.
+//! The linker looks at names only. The header's maxima are those of Rust too, and its refusals those of the library.
 
+use macaroosh::terms::refusals;
+use macaroosh::{MOST_BYTES, MOST_DRAWING, MOST_TABLE, MOST_WORDS};
 use std::collections::BTreeSet;
 
 const HEADER: &str = include_str!("../../crates/capi/macaroosh.h");
@@ -148,4 +150,37 @@ fn each_slip_is_told() {
     for slip in IN_RUST {
         assert_ne!(differences(HEADER, &spoiled(DECLARED, slip)), [], "in Rust: {}", slip.0);
     }
+}
+
+// A number that the header defines.
+fn defined(header: &str, name: &str) -> Option<usize> {
+    let start = format!("#define MACAROOSH_{name} ");
+    header.lines().find_map(|line| line.strip_prefix(&start)).and_then(|number| number.parse().ok())
+}
+
+#[test]
+fn the_maxima_are_those_of_rust() {
+    let maxima = [
+        ("MOST_WORDS", MOST_WORDS),
+        ("MOST_BYTES", MOST_BYTES),
+        ("MOST_TABLE", MOST_TABLE),
+        ("MOST_DRAWING", MOST_DRAWING),
+    ];
+    for (name, most) in maxima {
+        assert_eq!(defined(HEADER, name), Some(most), "{name}");
+    }
+}
+
+// The numbers in the header's list of refusals, which has two columns.
+fn listed(header: &str) -> BTreeSet<u8> {
+    let list = header.split("/* Refusals, in the order").nth(1).and_then(|list| list.split("*/").next());
+    let lines = list.expect("the list").lines().skip(1).filter_map(|line| line.strip_prefix(" * "));
+    lines.flat_map(|line| line.split("  ")).filter_map(|entry| entry.trim().split(' ').next()?.parse().ok()).collect()
+}
+
+#[test]
+fn every_refusal_is_listed() {
+    // 40 is the report program's own.
+    let all: BTreeSet<u8> = refusals::ALL.iter().map(|line| line.number).filter(|&number| number != 40).collect();
+    assert_eq!(listed(HEADER), all);
 }

@@ -731,7 +731,7 @@ fn bytes_are_not_written_to_a_terminal() {
     }
 }
 
-// A bundle, a table, a drawing or a log with one to four places flipped, cut or filled in.
+// A bundle, a table, a drawing or a log with up to four places flipped, cut or filled in.
 fn damaged(seed: u64) -> Vec<u8> {
     let dice = &mut Dice::new(seed);
     let mut bytes = match seed % 4 {
@@ -747,7 +747,7 @@ fn damaged(seed: u64) -> Vec<u8> {
             }
         }
     };
-    for _ in 0..dice.between(1, 4) {
+    for _ in 0..dice.below(5) {
         let at = dice.below(bytes.len() + 1);
         let end = bytes.len().min(at + dice.between(1, 9));
         match dice.below(3) {
@@ -807,9 +807,9 @@ fn no_damaged_input_makes_any_command_stumble() {
         fs::remove_file(&path).expect("removed");
         statuses
     });
-    // A table or a bundle may be sound after all, so that the commands had something to do; a text hardly.
+    // Some are sound after all, so that each command had something to do.
     for (at, command) in COMMANDS.iter().enumerate() {
         let answered = statuses.iter().filter(|all| all[at]).count();
-        assert!(answered < statuses.len() && (answered > 0 || command[0] == "undraw"), "{command:?}");
+        assert!((1..statuses.len()).contains(&answered), "{command:?}");
     }
 }

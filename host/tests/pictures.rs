@@ -3,7 +3,7 @@
 use judge::dice::{each_seed, seeds, Dice};
 use judge::drawings::Drawing;
 use judge::makers::sketches;
-use judge::model::{read_table, Rule, Table};
+use judge::model::{read_table, Coefficients, Rule, Table};
 use std::collections::{BTreeMap, BTreeSet};
 use std::ffi::OsStr;
 use std::fs;
@@ -13,12 +13,10 @@ use std::process::{Command, Output, Stdio};
 
 const PROGRAM: &str = env!("CARGO_BIN_EXE_macaroosh");
 
-// a, b, d.
-type Threshold = [i8; 3];
 // Rules by number: their arrow, and what they ask for of each type.
-type Rules = BTreeMap<usize, (String, BTreeMap<usize, Threshold>)>;
-// Thresholds, and the words for them after a rule's number.
-type Words = &'static [(Threshold, &'static str)];
+type Rules = BTreeMap<usize, (String, BTreeMap<usize, Coefficients>)>;
+// a, b and d, and the words for them after a rule's number.
+type Words = &'static [([i8; 3], &'static str)];
 
 // A shell that starts the program, under the emulator where the build was for another processor; of other programs it finds
 // only those in a folder.
@@ -127,10 +125,14 @@ fn shown(table: &[u8]) -> Shown {
     Shown::of(text(&got.stdout))
 }
 
-// A table of one type and states s0 and s1 by its rules: from, to, a, b, d.
-fn table(factor: usize, rules: &[(usize, usize, Threshold)]) -> Vec<u8> {
-    let rule = |&(from, to, threshold): &(usize, usize, Threshold)| Rule { from, to, coefficients: vec![threshold] };
-    Drawing { types: 1, factor, states: vec![[1, 0], [2, 0]], rules: rules.iter().map(rule).collect() }.bytes()
+// The types byte of one type in each edition.
+const ONE_TYPE: [usize; 2] = [1, 17];
+
+// A table of one type and states s0 and s1 by its rules: their ends and what they ask for.
+fn table(types_byte: usize, factor: usize, rules: &[(usize, usize, Coefficients)]) -> Vec<u8> {
+    let rule =
+        |&(from, to, coefficients): &(usize, usize, Coefficients)| Rule { from, to, coefficients: vec![coefficients] };
+    Drawing { types_byte, factor, states: vec![[1, 0], [2, 0]], rules: rules.iter().map(rule).collect() }.bytes()
 }
 
 #[test]
@@ -171,25 +173,28 @@ fn the_legend_says_what_the_signs_mean() {
         ["n, t", "how many boards there are, and how many faulty ones are tolerated: n > 3t (k = 3)"],
     ];
     assert_eq!(shown(&echo()).legend, legend.concat());
-    let rules = vec![Rule { from: 0, to: 0, coefficients: vec![[0; 3]; 2] }];
-    let two = Drawing { types: 2, factor: 1, states: vec![[1, 0]], rules };
-    let said = shown(&two.bytes()).legend.join("\n");
-    for line in [
-        "of type 0 (T = 2)\n",
-        "\ntype 1 ≥ t + 1\nto take the rule, a board must have messages of type 1 from at least t + 1 boards\n",
-        "\nseveral lines\nof one rule: each must hold\n",
-        ": n > t (k = 1)",
-    ] {
-        assert!(said.contains(line), "{line}: {said}");
+    let rules = vec![Rule { from: 0, to: 0, coefficients: vec![Coefficients::whole([0; 3]); 2] }];
+    for types_byte in [2, 18] {
+        let two = Drawing { types_byte, factor: 1, states: vec![[1, 0]], rules: rules.clone() };
+        let said = shown(&two.bytes()).legend.join("\n");
+        for line in [
+            "of type 0 (T = 2)\n",
+            "\ntype 1 ≥ t + 1\nto take the rule, a board must have messages of type 1 from at least t + 1 boards\n",
+            "\nseveral lines\nof one rule: each must hold\n",
+            ": n > t (k = 1)",
+        ] {
+            assert!(said.contains(line), "{line}: {said}");
+        }
     }
 }
 
 #[test]
 fn rules_between_the_same_states_are_below_each_other_on_one_arrow() {
-    let rules = [(0, 1, [56, -1, 0]), (1, 1, [0, 0, 0]), (0, 1, [2, 1, -2]), (1, 1, [0, 0, 3])];
-    let shown = shown(&table(3, &rules));
-    assert_eq!(shown.lines("s0 to s1"), ["0: ≥ 56n − t", "2: ≥ 2n + t − 2"]);
-    assert_eq!(shown.lines("s1 to s1"), ["1:", "3: ≥ 3"]);
+    let rules = [(0, 1, 1, [56, -1, 0]), (1, 1, 8, [0, 0, 0]), (0, 1, 3, [2, 1, -2]), (1, 1, 2, [0, 0, 3])];
+    let rules = rules.map(|(from, to, e, sum)| (from, to, Coefficients::over(e, sum)));
+    let shown = shown(&table(17, 3, &rules));
+    assert_eq!(shown.lines("s0 to s1"), ["0: ≥ 56n − t", "2: ≥ (2n + t − 2)/3"]);
+    assert_eq!(shown.lines("s1 to s1"), ["1:", "3: ≥ 3/2"]);
     assert_eq!(["s0 to s1", "s1 to s1"].map(|name| shown.nodes[name].heights.len()), [2, 2]);
     // Two halves of each arrow, and the one from nowhere.
     assert_eq!(shown.edges.len(), 5);
@@ -239,23 +244,70 @@ const WORDS: [(usize, Words); 4] = [
     (8, &[([-1, 8, 0], ""), ([0, 1, -6], " ≥ t − 6"), ([0, 1, -7], "")]),
 ];
 
+// The words for the rules of a state, where each asks for one of these.
+#[track_caller]
+fn are_written(types_byte: usize, factor: usize, asked: impl Iterator<Item = (Coefficients, &'static str)>) {
+    let (asked, words): (Vec<Coefficients>, Vec<&str>) = asked.unzip();
+    let rules: Vec<(usize, usize, Coefficients)> = asked.into_iter().map(|coefficients| (0, 0, coefficients)).collect();
+    let expected: Vec<String> = words.iter().enumerate().map(|(r, words)| format!("{r}:{words}")).collect();
+    let table = table(types_byte, factor, &rules);
+    assert_eq!(shown(&table).lines("s0 to s0"), expected, "types byte {types_byte}, k = {factor}");
+}
+
 #[test]
 fn thresholds_are_written_as_people_do() {
-    for (factor, words) in WORDS {
-        let rules: Vec<(usize, usize, Threshold)> = words.iter().map(|&(threshold, _)| (0, 0, threshold)).collect();
-        let expected: Vec<String> = words.iter().enumerate().map(|(r, (_, words))| format!("{r}:{words}")).collect();
-        assert_eq!(shown(&table(factor, &rules)).lines("s0 to s0"), expected, "k = {factor}");
+    for (types_byte, (factor, words)) in ONE_TYPE.into_iter().flat_map(|byte| WORDS.map(|words| (byte, words))) {
+        are_written(types_byte, factor, words.iter().map(|&(sum, words)| (Coefficients::whole(sum), words)));
     }
 }
 
-// The greatest value of a threshold over all admitted n and t.
-fn greatest([a, b, d]: Threshold, factor: u32) -> i32 {
-    let pairs = (1..=64).flat_map(|n| (0..=64).map(move |t| (n, t))).filter(|(n, t)| *n > factor as i32 * t);
-    pairs.map(|(n, t)| i32::from(a) * n + i32::from(b) * t + i32::from(d)).max().expect("a pair")
+// By divisor, under k = 3: a sum of 1 over 8 still asks for 1, and one of 0 for nothing.
+const DIVIDED: [(u8, [i8; 3], &str); 16] = [
+    (2, [1, 1, 1], " ≥ (n + t + 1)/2"),
+    (2, [1, 0, 0], " ≥ n/2"),
+    (3, [2, 0, 0], " ≥ 2n/3"),
+    (3, [0, 1, 0], " ≥ t/3"),
+    (8, [0, 0, 1], " ≥ 1/8"),
+    (8, [0, 0, 0], ""),
+    (8, [0, 0, -1], ""),
+    (8, [0, 0, 127], " ≥ 127/8"),
+    (8, [1, 0, -63], " ≥ (n − 63)/8"),
+    (8, [1, 0, -64], ""),
+    (7, [-1, 3, 2], " ≥ (−n + 3t + 2)/7"),
+    (7, [-1, 3, 1], ""),
+    (4, [0, -1, 1], " ≥ (−t + 1)/4"),
+    (5, [-128, -128, -128], ""),
+    (6, [127, 127, 127], " ≥ (127n + 127t + 127)/6"),
+    (1, [1, 1, 1], " ≥ n + t + 1"),
+];
+
+#[test]
+fn divisors_are_written_as_fractions() {
+    are_written(17, 3, DIVIDED.into_iter().map(|(e, sum, words)| (Coefficients::over(e, sum), words)));
 }
 
-// The threshold that words say, read from the left: signs and blanks, then a number, n or t.
-fn read_words(words: &str) -> Threshold {
+// The greatest value of a threshold over all admitted n and t.
+fn greatest(Coefficients { a, b, d, e }: Coefficients, factor: u32) -> i32 {
+    let pairs = (1..=64).flat_map(|n| (0..=64).map(move |t| (n, t))).filter(|(n, t)| *n > factor as i32 * t);
+    let sum = pairs.map(|(n, t)| i32::from(a) * n + i32::from(b) * t + i32::from(d)).max().expect("a pair");
+    // More than the next whole number below the next lower sum.
+    (sum - 1).div_euclid(i32::from(e)) + 1
+}
+
+// The threshold that words say: a sum, or over a divisor one that is in brackets where it has several terms.
+fn read_words(words: &str) -> Coefficients {
+    let (sum, e) = match words.split_once('/') {
+        Some((sum, e)) => (sum, e.parse().unwrap_or_else(|_| panic!("no divisor: {words}"))),
+        None => return Coefficients::whole(read_sum(words)),
+    };
+    assert_ne!(e, 1, "{words}");
+    let inside = sum.strip_prefix('(').and_then(|sum| sum.strip_suffix(')'));
+    assert_eq!(inside.is_some(), inside.unwrap_or(sum).contains(' '), "{words}");
+    Coefficients::over(e, read_sum(inside.unwrap_or(sum)))
+}
+
+// a, b and d, read from the left: signs and blanks, then a number, n or t.
+fn read_sum(words: &str) -> [i8; 3] {
     let mut threshold = [0; 3];
     let spaced = words.replace('−', "-").replace(" - ", " -").replace(" + ", " ");
     for part in spaced.split(' ') {
@@ -275,7 +327,7 @@ fn read_words(words: &str) -> Threshold {
 }
 
 // What a line asks for: `≥ t + 1`, or of several types `type 1 ≥ t + 1`.
-fn read_asked(said: &str, types: usize) -> (usize, Threshold) {
+fn read_asked(said: &str, types: usize) -> (usize, Coefficients) {
     let (of, words) = said.split_once("≥ ").unwrap_or_else(|| panic!("no threshold: {said}"));
     let m = match of.strip_prefix("type ").and_then(|m| m.strip_suffix(' ')) {
         Some(m) if types > 1 => m.parse().expect("a type"),
@@ -286,7 +338,7 @@ fn read_asked(said: &str, types: usize) -> (usize, Threshold) {
 }
 
 // A rule's number, where its first line is, and what the line asks for.
-fn read_line(line: &str, types: usize) -> (Option<usize>, Option<(usize, Threshold)>) {
+fn read_line(line: &str, types: usize) -> (Option<usize>, Option<(usize, Coefficients)>) {
     let (number, said) = match line.split_once(':') {
         Some((number, said)) => (Some(number.parse().expect("a rule's number")), said),
         None => (None, line),
@@ -374,23 +426,29 @@ fn every_table_is_shown_whole_or_refused_as_its_drawing_is() {
 }
 
 // Coefficients near the edge, where the greatest value is about 0.
-fn near_the_edge(dice: &mut Dice, factor: u32) -> Threshold {
+fn near_the_edge(dice: &mut Dice, e: u8, factor: u32) -> Coefficients {
     let small = |dice: &mut Dice| dice.below(9) as i8 - 4;
     let (a, b) = (small(dice), small(dice));
-    let d = i8::try_from(-greatest([a, b, 0], factor)).unwrap_or(-128);
-    [a, b, d.saturating_add(dice.below(4) as i8 - 1)]
+    let d = i8::try_from(-greatest(Coefficients::whole([a, b, 0]), factor)).unwrap_or(-128);
+    let around = dice.below(4 * usize::from(e)) as i8 - (2 * e as i8 - 1);
+    Coefficients::over(e, [a, b, d.saturating_add(around)])
 }
 
 #[test]
 fn nothing_is_asked_for_exactly_where_no_n_and_t_ask() {
-    for factor in 1..=8 {
+    for (factor, types_byte) in (1..=8).flat_map(|factor| [(factor, 4), (factor, 20)]) {
         let dice = &mut Dice::new(u64::from(factor));
-        let mut rule = |_| Rule { from: 0, to: 0, coefficients: (0..4).map(|_| near_the_edge(dice, factor)).collect() };
+        let most = if types_byte == 20 { 8 } else { 1 };
+        let mut any = |_| {
+            let e = dice.between(1, most) as u8;
+            near_the_edge(dice, e, factor)
+        };
+        let mut rule = |_| Rule { from: 0, to: 0, coefficients: (0..4).map(&mut any).collect() };
         let rules: Vec<Rule> = (0..64).map(&mut rule).collect();
-        let edge = Drawing { types: 4, factor: factor as usize, states: vec![[1, 0]], rules }.bytes();
+        let edge = Drawing { types_byte, factor: factor as usize, states: vec![[1, 0]], rules }.bytes();
         let table = read_table(&edge).expect("a table");
         let all = table.rules.iter().flat_map(|rule| &rule.coefficients);
-        let values: BTreeSet<i32> = all.map(|&threshold| greatest(threshold, factor)).collect();
+        let values: BTreeSet<i32> = all.map(|&coefficients| greatest(coefficients, factor)).collect();
         assert!((-1..=2).all(|value| values.contains(&value)), "k = {factor}: {values:?}");
         assert_eq!(rules_of(&shown(&edge), 4), rules_expected(&table), "k = {factor}");
     }

@@ -382,6 +382,14 @@ line 10, column 3:
   ^
 ";
     undraw_says("s0 -> s3", "\n\t s0 -> s4", told, "result 6 2 0\n");
+    let told = "\
+refused 9 at rule 0: the rule has a divisor that is not 1 to 8
+line 2, column 1:
+s0 -> s0 [label=\"0 0 0 0\"];}
+^
+";
+    let nought = "digraph t {T=17;k=1;s0 [label=\"1 0\"];\ns0 -> s0 [label=\"0 0 0 0\"];}";
+    assert_eq!(text(&given(&["undraw", "-"], nought.as_bytes()).stderr), told);
     // Neither names one.
     let (initial, not) = ("s0 [label=\"1 0\"];\ns1 [label=\"1 0\"]", "s0 [label=\"0 0\"];\ns1 [label=\"0 0\"]");
     undraw_says(initial, not, "refused 5: no state is initial\n", "result 5 0 0\n");
@@ -584,9 +592,9 @@ fn a_gigabyte_is_not_read() {
     let room = room("gigabyte");
     let path = room.join("gigabyte");
     File::create(&path).and_then(|file| file.set_len(1 << 30)).expect("a file of holes");
-    mistake(&[OsStr::new("run"), path.as_os_str()], "is over 1048576 bytes; a bundle has at most 17392");
-    mistake(&[OsStr::new("draw"), path.as_os_str()], "is over 1048576 bytes; a table has at most 936");
-    mistake(&[OsStr::new("undraw"), path.as_os_str()], "a drawing without blanks of its own has at most 5773");
+    mistake(&[OsStr::new("run"), path.as_os_str()], "is over 1048576 bytes; a bundle has at most 17648");
+    mistake(&[OsStr::new("draw"), path.as_os_str()], "is over 1048576 bytes; a table has at most 1192");
+    mistake(&[OsStr::new("undraw"), path.as_os_str()], "a drawing without blanks of its own has at most 6286");
     fs::remove_file(&path).expect("removed");
     // Standard input that never ends.
     let zeros = File::open("/dev/zero").expect("zeros");

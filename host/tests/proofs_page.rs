@@ -206,12 +206,12 @@ fn wrong_calls(page: &str) -> Vec<String> {
     lost.map(|(item, ..)| format!("there is no function {item}")).collect()
 }
 
-// Edits that a table names and that are not there, and the other way round. A figure's edit is one of `claims`.
+// Edits that a table names and that are not there, and the other way round. A figure's edit is one of `figures`.
 fn wrong_edits(page: &str) -> Vec<String> {
     let mut named = BTreeSet::new();
     for table in tables(page) {
         let figures = table.cells("As a figure").into_iter().flat_map(quoted);
-        named.extend(figures.map(|name| format!("claims/{name}")));
+        named.extend(figures.map(|name| format!("figures/{name}")));
         let others = ["In code", "More edits"].map(|head| table.cells(head)).concat();
         named.extend(others.into_iter().flat_map(quoted).map(str::to_string));
     }
@@ -254,7 +254,7 @@ const SLIPS: [Slip; 15] = [
     ("a helper's fact", "(`CountsTo`)", "(`CountTo`)", "CountTo"),
     ("a form's place", "`lowest_in_transit`", "`lowest_transit`", "lowest_transit"),
     ("an edit of code", "`words/joint-count`", "`words/join-count`", "words/join-count"),
-    ("an edit of a figure", "| `slip-hears-itself` |", "| |", "claims/slip-hears-itself"),
+    ("an edit of a figure", "| `slip-hears-itself` |", "| |", "figures/slip-hears-itself"),
     (
         "an edit in the text",
         "`step/writes-one-word-more`, `capi/",

@@ -7,7 +7,7 @@ mod start;
 use judge::dice::Dice;
 use judge::drawings::{Drawing, Text};
 use judge::makers::{bundles, sketches};
-use judge::model::{read, read_table, Bundle, Configuration, Messages, Model, Outline};
+use judge::model::{read, read_table, Bundle, Configuration, Edition, Messages, Model, Outline};
 use macaroosh::calls::Step;
 use macaroosh::{Form, Refusal, ECHO, MOST_STEPS};
 use reader::Json;
@@ -45,10 +45,17 @@ fn numbers(line: &str) -> Vec<usize> {
     line.split(|c: char| !c.is_ascii_digit()).filter_map(|digits| digits.parse().ok()).collect()
 }
 
-// What a·n + b·t + d comes to as it is written: `n - t`, `-2·n + 3`.
+// What a threshold comes to as it is written: `n - t`, `-2·n + 3`, `(n + t + 1)/2 rounded up`, `n/2 rounded up`.
 fn value(formula: &str, bundle: &Bundle) -> i64 {
-    let spaced = formula.replace(" - ", " -").replace(" + ", " ");
-    spaced.split(' ').map(|term| term_value(term, bundle)).sum()
+    let (sum, e) = match formula.strip_suffix(" rounded up").and_then(|fraction| fraction.split_once('/')) {
+        Some((sum, e)) => (sum, e.parse().expect("a divisor")),
+        None => (formula, 1),
+    };
+    let inside = sum.strip_prefix('(').and_then(|sum| sum.strip_suffix(')'));
+    let spaced = inside.unwrap_or(sum).replace(" - ", " -").replace(" + ", " ");
+    assert_eq!(inside.is_some(), e > 1 && spaced.contains(' '), "{formula}");
+    let sum: i64 = spaced.split(' ').map(|term| term_value(term, bundle)).sum();
+    (sum + e - 1).div_euclid(e)
 }
 
 fn term_value(term: &str, bundle: &Bundle) -> i64 {
@@ -186,7 +193,8 @@ fn explains(bundle: &Bundle, left: &Configuration, step: Step, number: u8, lines
                 let asked = Model.threshold(bundle, coefficients);
                 if (has as i64) < asked {
                     let line = lines.next().expect("a line for each type");
-                    let formula = line.split(['(', ')']).nth(1).expect("a formula");
+                    let formula = line.split_once(" (").and_then(|(_, rest)| rest.split_once("), board "));
+                    let formula = formula.expect("a formula").0;
                     assert_eq!(value(formula, bundle), asked, "{line}");
                     let this = if heard_now { ", this one included" } else { "" };
                     let said =
@@ -273,6 +281,12 @@ that step is board 0, rule 1, type 0, source 3
 rule 1 asks for 2 of type 0 (t + 1), board 0 has 1, this one included
 ";
     assert_eq!(text(&given(&["run", "-"], &example("one-echo.bundle")).stderr), told);
+    let told = "\
+refused 25 at step 5: a threshold is not met
+that step is board 2, rule 5, type 0, source 2
+rule 5 asks for 4 of type 0 ((n + t + 1)/2 rounded up), board 2 has 3, this one included
+";
+    assert_eq!(text(&given(&["run", "-"], &example("half.bundle")).stderr), told);
     // W's second step again, and its last one without a message.
     let again = |step| bundles::with(&example("w.bundle"), Step::of(step));
     let told = "\
@@ -305,6 +319,21 @@ with 3 starts it would have to say 24 and 27 (6 steps) or 20 and 23 (5 steps)
 refused 3: the table's distances disagree with its counts or its length
 its trailer says that states begin 42 bytes before it and rules 35, and 43 are before it
 4 states of 2 bytes and 7 rules of 5 make that 43, 35 and 43
+";
+    assert_eq!(text(&given(&["draw", "-"], &table).stderr), told);
+    // Rules of the first edition under the types byte of the second.
+    table[43] = 43;
+    table[49] = 17;
+    let told = "\
+refused 3: the table's distances disagree with its counts or its length
+its trailer says that states begin 43 bytes before it and rules 35, and 43 are before it
+4 states of 2 bytes and 7 rules of 6 make that 50, 42 and 50
+";
+    assert_eq!(text(&given(&["draw", "-"], &table).stderr), told);
+    table[49] = 21;
+    let told = "\
+refused 2: a count of the table (1 to 16 states, 1 to 64 rules, 1 to 4 types) or k (1 to 8) is out of range
+its trailer says 4 states, 7 rules, 5 types (second edition), k = 3
 ";
     assert_eq!(text(&given(&["draw", "-"], &table).stderr), told);
 }
@@ -368,15 +397,18 @@ fn a_refused_table_is_told_with_its_figures() {
         };
         let (before, trailer) = table.split_at(table.len() - 8);
         let counts = [4, 5, 6, 7].map(|at| usize::from(trailer[at]));
+        let (edition, types) = Edition::of(counts[2]);
         let lines = told(&["draw", "-"], &table, refusal);
         if refusal.number == 2 {
-            assert_eq!((lines.len(), &numbers(&lines[0])[..]), (1, &counts[..]));
+            let said = [counts[0], counts[1], types, counts[3]];
+            assert_eq!((lines.len(), &numbers(&lines[0])[..]), (1, &said[..]));
+            assert_eq!(lines[0].contains(" (second edition), k = "), edition == Edition::Second, "{}", lines[0]);
         } else {
             let distances = [0, 2].map(|at| usize::from(trailer[at]) + 256 * usize::from(trailer[at + 1]));
             assert_eq!(numbers(&lines[0]), [distances[0], distances[1], before.len()]);
             // With what is asked for, it is not refused for its distances.
             let asked = numbers(&lines[1]);
-            let long = 2 + 3 * counts[2];
+            let long = Model.rule_size(edition, types);
             assert_eq!(asked[..4], [counts[0], 2, counts[1], long], "{}", lines[1]);
             assert_eq!(lines.len(), 2);
             let mut mended = before.to_vec();
@@ -406,7 +438,7 @@ fn which_table_is_refused_is_said() {
     for seed in 1..=600 {
         let (bundle, standing) = bundles::case(&mut Dice::new(seed));
         let refusal = match read(&bundle, &standing) {
-            Err(refusal) if refusal.number <= 8 => refusal,
+            Err(refusal) if refusal.number <= 9 => refusal,
             _ => continue,
         };
         fs::write(&path, &standing).expect("a file");

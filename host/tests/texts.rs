@@ -104,6 +104,12 @@ fn a_table_of_its_own_is_drawn_in_front() {
     assert_eq!(packed(&text), own);
     // The same table beside it is not written.
     assert_eq!(unpacked(&bytes("w.bundle")), W);
+    // With divisors too.
+    let own = [bytes("majority.table"), bytes("w.bundle")].concat();
+    let text = format!("{}{W}", shown(&given(&["draw", "-"], &bytes("majority.table")).stdout));
+    assert!(text.contains("T=17; k=3;\n") && text.contains("s2 -> s3 [label=\"1 1 1 2\"];\n"), "{text}");
+    assert_eq!(unpacked(&own), text);
+    assert_eq!(packed(&text), own);
 }
 
 #[test]
@@ -531,6 +537,15 @@ s0 -> s1 [label=\"0 0 0, 0 0 0\"]; }
 ^
 ";
     told((two.to_string() + W).as_bytes(), what, "result 8 0 0\n");
+    let divided =
+        "digraph t {T=17;k=1; s0 [label=\"1 0\"];\ns0 -> s0 [label=\"0 0 0 8\"];\ns0 -> s0 [label=\"0 0 0 9\"]; }\n";
+    let what = "\
+refused 9 at rule 1: the rule has a divisor that is not 1 to 8
+line 3, column 1:
+s0 -> s0 [label=\"0 0 0 9\"]; }
+^
+";
+    told((divided.to_string() + W).as_bytes(), what, "result 9 1 0\n");
 }
 
 #[test]
@@ -648,7 +663,7 @@ fn wrong_words_are_told() {
         assert!(shown(&got.stderr).contains(what), "{}", shown(&got.stderr));
     }
     let got = given(&["pack", "-"], "#".repeat((1 << 20) + 1).as_bytes());
-    let most = "a text without comments and blanks of its own has at most 173936";
+    let most = "a text without comments and blanks of its own has at most 174449";
     let what = format!("macaroosh: standard input is over 1048576 bytes; {most}\n");
     assert_eq!((got.status.code(), shown(&got.stderr)), (Some(2), &*what));
     let help = given(&["--help"], b"").stdout;

@@ -173,7 +173,7 @@ fn logs_are_answered_as_by_the_raw_call() {
         replays_alike(&bundle, &standing, &log)
     };
     let refusals: BTreeSet<u8> = each_seed(seeds("SEEDS", SEEDS), asked).concat().into_iter().collect();
-    let expected: BTreeSet<u8> = (0..=8).chain(10..=14).chain(20..=25).chain([30, 50, 51, 52]).collect();
+    let expected: BTreeSet<u8> = (0..=14).chain(20..=25).chain([30, 50, 51, 52]).collect();
     assert_eq!(refusals, expected);
 }
 
@@ -195,7 +195,7 @@ fn tables_and_texts_are_answered_as_by_the_raw_calls() {
         [of_draw, of_undraw].concat()
     };
     let refusals: BTreeSet<u8> = each_seed(seeds("SEEDS", SEEDS), asked).concat().into_iter().collect();
-    let expected: BTreeSet<u8> = (0..=8).chain([60, 61]).collect();
+    let expected: BTreeSet<u8> = (0..=9).chain([60, 61]).collect();
     assert_eq!(refusals, expected);
 }
 

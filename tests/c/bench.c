@@ -1,6 +1,6 @@
 /* The header from C: schedule W is run in each form, translated there and back and to each form, and asked for its first step,
- * as is a run that is quiet; the echo table is drawn and read back; W's log is replayed; refusals leave lent memory alone. The
- * last line is 'N passed, M failed'. */
+ * as is a run that is quiet; the echo table is drawn and read back; W's log is replayed; a table with divisors is used and drawn;
+ * refusals leave lent memory alone. The last line is 'N passed, M failed'. */
 #include "macaroosh.h"
 
 #include <stdio.h>
@@ -59,6 +59,33 @@ static const char service_log[] =
     "board 2 rule 3 type 0 from 0\n"
     "board 2 rule 4 type 0 from 3\n"
     "board 2 rule 5 type 0 from 1\n";
+
+/* The echo table in the second edition, where accepting takes more than (n + t)/2 echoes: (n + t + 1)/2, rounded up. */
+static const uint8_t majority[] = {
+    0x01, 0x00, 0x01, 0x00, 0x00, 0x01, 0x02, 0x01, 0x00, 0x00, 0x00, 0x00, 0x00, 0x01, 0x00, 0x02, 0x00, 0x01, 0x01, 0x01,
+    0x00, 0x03, 0x01, 0x01, 0x01, 0x02, 0x01, 0x02, 0x00, 0x00, 0x00, 0x01, 0x02, 0x02, 0x00, 0x00, 0x00, 0x01, 0x02, 0x03,
+    0x01, 0x01, 0x01, 0x02, 0x03, 0x03, 0x00, 0x00, 0x00, 0x01, 0x32, 0x00, 0x2A, 0x00, 0x04, 0x07, 0x11, 0x03,
+};
+/* n = 5, t = f = 1: board 2 hears boards 0, 1 and 4, and then itself. */
+static const uint8_t four_of_five[] = {
+    0x01, 0x01, 0x01, 0x01, 0x00, 0x03, 0xFF, 0xFF, 0x01, 0x03, 0xFF, 0xFF, 0x02, 0x03, 0xFF, 0xFF, 0x02, 0x04, 0x00, 0x00,
+    0x02, 0x04, 0x00, 0x01, 0x02, 0x04, 0x00, 0x04, 0x02, 0x05, 0x00, 0x02, 0x1C, 0x00, 0x20, 0x00, 0x05, 0x01, 0x01, 0x00,
+};
+static const char majority_drawing[] =
+    "digraph t {\n"
+    "T=17; k=3;\n"
+    "s0 [label=\"1 0\"];\n"
+    "s1 [label=\"1 0\"];\n"
+    "s2 [label=\"0 1\"];\n"
+    "s3 [label=\"2 1\"];\n"
+    "s0 -> s0 [label=\"0 0 0 1\"];\n"
+    "s0 -> s2 [label=\"0 1 1 1\"];\n"
+    "s0 -> s3 [label=\"1 1 1 2\"];\n"
+    "s1 -> s2 [label=\"0 0 0 1\"];\n"
+    "s2 -> s2 [label=\"0 0 0 1\"];\n"
+    "s2 -> s3 [label=\"1 1 1 2\"];\n"
+    "s3 -> s3 [label=\"0 0 0 1\"];\n"
+    "}\n";
 
 static int passed, failed;
 
@@ -243,6 +270,33 @@ static void logs(void) {
     check("and leaves the starts", memcmp(left, start_words, sizeof left) == 0);
 }
 
+static void divisors(void) {
+    static const uint64_t accepts[] = {2, 2, 3, 1, 0, 0, 23, 0, 7, 99}, before[] = {2, 2, 2, 1, 0, 0, 19, 0, 7, 99};
+    const size_t length = sizeof majority_drawing - 1;
+    uint8_t table[sizeof majority], text[MACAROOSH_MOST_DRAWING], back[MACAROOSH_MOST_TABLE];
+    uint64_t words[] = {99, 99, 99, 99, 99, 99, 99, 99, 99, 99};
+    memcpy(table, majority, sizeof table);
+    memset(text, 0xAA, sizeof text);
+    memset(back, 0xAA, sizeof back);
+    check("four of five accept",
+          answers(macaroosh_run(four_of_five, sizeof four_of_five, table, sizeof table, words, 10), 0, 0, 7));
+    check("with their words", memcmp(words, accepts, sizeof words) == 0);
+    /* Rule 5 without its divisor asks for n + t + 1. */
+    table[43] = 1;
+    check("not without the divisor",
+          answers(macaroosh_run(four_of_five, sizeof four_of_five, table, sizeof table, words, 10), 25, 6, 6));
+    check("with the words before that step", memcmp(words, before, sizeof words) == 0);
+    table[43] = 9;
+    check("a divisor of 9", answers(macaroosh_run(four_of_five, sizeof four_of_five, table, sizeof table, words, 10), 9, 5, 0));
+    check("nor is it drawn", answers(macaroosh_draw(table, sizeof table, text, sizeof text), 9, 5, 0));
+    check("words and text stay", memcmp(words, before, sizeof words) == 0 && all(text, sizeof text, 0xAA));
+    check("divisors are drawn", answers(macaroosh_draw(majority, sizeof majority, text, sizeof text), 0, 0, (uint32_t)length));
+    check("each to the byte", memcmp(text, majority_drawing, length) == 0 && all(text + length, sizeof text - length, 0xAA));
+    check("and read back", answers(macaroosh_undraw(text, length, back, sizeof back), 0, 0, sizeof majority));
+    check("each to the same byte",
+          memcmp(back, majority, sizeof majority) == 0 && all(back + sizeof majority, sizeof back - sizeof majority, 0xAA));
+}
+
 /* NULL where the length is 0: no bundle, no standing table, nothing lent. */
 static void nothing_lent(void) {
     uint64_t words[7] = {9, 9, 9, 9, 9, 9, 9};
@@ -292,6 +346,7 @@ int main(void) {
     first_steps();
     drawings();
     logs();
+    divisors();
     refusals();
     nothing_lent();
     printf("%d passed, %d failed\n", passed, failed);

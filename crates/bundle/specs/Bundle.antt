@@ -61,7 +61,7 @@ startsOf b = take (correctOf b) (drop (frontLength b) b)
 abbrev pub stepsAt : List ℕ → ℕ
 stepsAt b = frontLength b + correctOf b
 
--- the most bytes of a bundle, with a table of its own, starts, steps and a trailer: 17,392
+-- the most bytes of a bundle, with a table of its own, starts, steps and a trailer: 17,648
 abbrev pub mostBundle : ℕ
 mostBundle = mostTable + mostBoards + mostStepBytes + trailerBytes
 

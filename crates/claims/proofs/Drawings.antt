@@ -2,7 +2,7 @@
 use mathlib.Core.Path.{_≡_, refl, sym, ap, _∙_, subst, subst⁻¹}
 use mathlib.Core.Bool.{true, false}
 use mathlib.Core.List.{List, _∷_, _++_, append-assoc}
-use Prim.Native.Nat.{ℕ, zero, suc, _+_, _-_, _*_, _≤_, _<_}
+use Prim.Native.Nat.{ℕ, zero, suc, _+_, _-_, _≤_, _<_}
 use native.Mathlib.Omega.{arith}
 use native.Mathlib.Decide.{decLt, ℕ-discrete}
 use lib.ListN.{length, take, drop, length-append, take-append-drop}
@@ -10,10 +10,12 @@ use lib.Seq.{take-take, take-append-add, take-append-le}
 use borrow.Author.Tests.{eq-eqb, ne-eqb, lt-ltb, le-ltb, le-leb, lt-leb}
 use Rattle.fault.specs.declared.Verdict.{Verdict}
 use Rattle.fault.specs.declared.Answer.{Answer}
+use Rattle.fault.specs.Bytes.{trailerOf}
 use Rattle.fault.specs.Tests.{_below_, _differs_}
 use Rattle.fault.specs.Fault.{refused, nothingDone, _if_else_}
 use Rattle.fault.proofs.FaultLaws.{if-keeps}
-use Rattle.table.specs.Table.{statesOf, rulesOf, typesOf, factorOf}
+use Rattle.layout.specs.Layout.{typesIn}
+use Rattle.table.specs.Table.{statesOf, rulesOf, typesByte, factorOf, recordsBytes}
 use Rattle.table.specs.Refusals.{countsOutside, tableFault}
 use Rattle.dot.specs.Text.{drawingOf}
 use Rattle.dot.specs.Reading.{Gathered, Outcome, drawn, fault, reading}
@@ -96,28 +98,28 @@ module _ (t : List ℕ) (o : Outcome) (e : reading t ≡ o) where
 
 -- ---- what was read
 module _ (r : Gathered) where
-  read-strange : countsOutside (r .states) (r .rules) (r .types) (r .factor) ≡ true → drawnFault (drawn r) ≡ refused 2
+  read-strange : countsOutside (r .states) (r .rules) (typesIn (r .types)) (r .factor) ≡ true → drawnFault (drawn r) ≡ refused 2
   unfolding drawnFault _if_else_
   read-strange h = rw h
 
-  read-fine : countsOutside (r .states) (r .rules) (r .types) (r .factor) ≡ false → drawnFault (drawn r) ≡ tableFault (tableOf r)
+  read-fine : countsOutside (r .states) (r .rules) (typesIn (r .types)) (r .factor) ≡ false → drawnFault (drawn r) ≡ tableFault (tableOf r)
   unfolding drawnFault _if_else_
   read-fine h = rw h
 
-  strange-refused : countsOutside (r .states) (r .rules) (r .types) (r .factor) ≡ true → drawnFault (drawn r) .number ≡ 0 → ⊥
+  strange-refused : countsOutside (r .states) (r .rules) (typesIn (r .types)) (r .factor) ≡ true → drawnFault (drawn r) .number ≡ 0 → ⊥
   strange-refused h z = let q = sym (ap (λ (v : Verdict). v .number) (read-strange h)) ∙ z in omega (arith, q)
 
-  fine-number : countsOutside (r .states) (r .rules) (r .types) (r .factor) ≡ false → drawnFault (drawn r) .number ≡ tableFault (tableOf r) .number
+  fine-number : countsOutside (r .states) (r .rules) (typesIn (r .types)) (r .factor) ≡ false → drawnFault (drawn r) .number ≡ tableFault (tableOf r) .number
   fine-number h = ap (λ (v : Verdict). v .number) (read-fine h)
 
-  read-later : length (r .body) ≡ 2 * r .states + r .rules * (2 + 3 * r .types) → Later (drawnFault (drawn r) .number)
+  read-later : length (r .body) ≡ recordsBytes (r .states) (r .rules) (r .types) → Later (drawnFault (drawn r) .number)
   unfolding drawnFault tableOf
   read-later l =
-      if-keeps (λ (v : Verdict). Later (v .number)) (refused 2) (countsOutside (r .states) (r .rules) (r .types) (r .factor)) (tableFault (tableOf r)) (λ _. later-2)
+      if-keeps (λ (v : Verdict). Later (v .number)) (refused 2) (countsOutside (r .states) (r .rules) (typesIn (r .types)) (r .factor)) (tableFault (tableOf r)) (λ _. later-2)
       (λ h. rw (made-records (r .body) (r .states) (r .rules) (r .types) (r .factor) l h) (records-later (tableOf r)))
 
 -- a text read as the table s, whose counts are a table's
-gives-back : (t s : List ℕ) (r : Gathered) → reading t ≡ drawn r → countsOutside (r .states) (r .rules) (r .types) (r .factor) ≡ false → tableOf r ≡ s → tableFault s .number ≡ 0 →
+gives-back : (t s : List ℕ) (r : Gathered) → reading t ≡ drawn r → countsOutside (r .states) (r .rules) (typesIn (r .types)) (r .factor) ≡ false → tableOf r ≡ s → tableFault s .number ≡ 0 →
     Gives (undrawAnswer t) (undrawBytes t) s
 unfolding drawnTable
 gives-back t s r e h f z =
@@ -132,28 +134,28 @@ module _ (s : List ℕ) (a : Table s) where
   far : Distances s
   far = distances s (a .clean)
 
-  own-drawing : (l : ℕ) × (reading (drawingOf s) ≡ drawn (record { types = typesOf s; factor = factorOf s; states = statesOf s; rules = rulesOf s; last = l; body = take (length s - 8) s }))
+  own-drawing : (l : ℕ) × (reading (drawingOf s) ≡ drawn (record { types = typesByte s; factor = factorOf s; states = statesOf s; rules = rulesOf s; last = l; body = take (length s - 8) s }))
   own-drawing = drawing-read s (far .sizes) (a .all-bytes)
 
   back-from : (t : List ℕ) (l x : ℕ) → x ≡ length s - 8 →
-      reading t ≡ drawn (record { types = typesOf s; factor = factorOf s; states = statesOf s; rules = rulesOf s; last = l; body = take x s }) →
+      reading t ≡ drawn (record { types = typesByte s; factor = factorOf s; states = statesOf s; rules = rulesOf s; last = l; body = take x s }) →
       Gives (undrawAnswer t) (undrawBytes t) s
   unfolding tableOf
   back-from t l x w e =
       gives-back t s _ e (sized-counts s (far .sizes))
-      (ap (λ (y : ℕ). take y s ++ trailerFor (statesOf s) (rulesOf s) (typesOf s) (factorOf s)) w ∙ own-table s far (a .all-bytes)) (a .clean)
+      (ap (λ (y : ℕ). take y s ++ trailerFor (statesOf s) (rulesOf s) (typesByte s) (factorOf s)) w ∙ own-table s far (a .all-bytes)) (a .clean)
 
   both-ways : ThereAndBack s
   unfolding drawAnswer drawBytes
   both-ways =
       let z = far .sizes in
-      let o = table-read (typesOf s) (factorOf s) (statesOf s) (rulesOf s) s (omega (arith, z .few-types)) (omega (arith, z .few-factor)) (omega (arith, z .few-states))
+      let o = table-read (typesByte s) (factorOf s) (statesOf s) (rulesOf s) s (omega (arith, a .all-bytes (trailerOf s + 6))) (omega (arith, z .few-factor)) (omega (arith, z .few-states))
       (a .all-bytes) (omega (arith, z .whole)) in
       record {
         drawn = gives (tableFault s) (drawingOf s) (a .clean);
         drawing = read-drawing (drawingOf s) _ (own-drawing .1);
         back = back-from (drawingOf s) (own-drawing .0) (length s - 8) refl (own-drawing .1);
-        spaced = λ t x. back-from t (o .0) (2 * statesOf s + rulesOf s * (2 + 3 * typesOf s)) (omega (arith, z .whole)) (o .1 t x);
+        spaced = λ t x. back-from t (o .0) (recordsBytes (statesOf s) (rulesOf s) (typesByte s)) (omega (arith, z .whole)) (o .1 t x);
       }
 
 -- ---- no drawing
@@ -191,11 +193,11 @@ answered-as t d =
     }
 
 -- ---- blanks
-same-answers : (t u : List ℕ) (T k n m : ℕ) (s : List ℕ) → Tokens t T k n m s → Tokens u T k n m s → SameAnswer t u
+same-answers : (t u : List ℕ) (byte k n m : ℕ) (s : List ℕ) → Tokens t byte k n m s → Tokens u byte k n m s → SameAnswer t u
 unfolding drawnFault drawnTable tableOf
-same-answers t u T k n m s a b =
-    let e = tokens-read t T k n m s a in
-    let f = tokens-read u T k n m s b in
+same-answers t u byte k n m s a b =
+    let e = tokens-read t byte k n m s a in
+    let f = tokens-read u byte k n m s b in
     record {
       answer = λ lent. answers t _ (e .1) lent ∙ sym (answers u _ (f .1) lent);
       bytes = λ out. leaves t _ (e .1) out ∙ sym (leaves u _ (f .1) out);

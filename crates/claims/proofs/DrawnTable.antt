@@ -14,8 +14,9 @@ use Rattle.fault.specs.Tests.{_differs_, outside}
 use Rattle.fault.specs.Fault.{fine, verdict, refused, _if_else_, _▹_, firstFault}
 use Rattle.fault.proofs.FaultLaws.{if-keeps, if-passed, Clean}
 use Rattle.fault.proofs.TestLaws.{or-none, same}
-use Rattle.table.specs.Table.{stateDistance, ruleDistance, statesOf, rulesOf, typesOf, factorOf, ruleSize}
-use Rattle.table.specs.Refusals.{countsOutside, tooShort, countsOff, distancesOff, noInitial, noState, forgets, sendsTwo, stateOff, stateFault, ruleFault, recordsFault, tableFault}
+use Rattle.layout.specs.Layout.{typesIn, ruleBytes}
+use Rattle.table.specs.Table.{stateDistance, ruleDistance, statesOf, rulesOf, typesByte, typesOf, factorOf, ruleSize, recordsBytes}
+use Rattle.table.specs.Refusals.{countsOutside, tooShort, countsOff, distancesOff, noInitial, noState, divisorOff, forgets, sendsTwo, stateOff, stateFault, ruleFault, recordsFault, tableFault}
 use Rattle.table.specs.Facts.{Sized}
 use Rattle.table.proofs.TableLaws.{sized}
 use Rattle.drawing.specs.Entry.{trailerFor}
@@ -24,7 +25,7 @@ use Rattle.drawing.specs.Entry.{trailerFor}
 -- its distances are those of its counts
 pub record Distances (s : List ℕ) : Type 0 where
   pub sizes : Sized s
-  pub to-states : stateDistance s ≡ 2 * statesOf s + rulesOf s * ruleSize s
+  pub to-states : stateDistance s ≡ recordsBytes (statesOf s) (rulesOf s) (typesByte s)
   pub to-rules : ruleDistance s ≡ rulesOf s * ruleSize s
 
 pub distances : (s : List ℕ) → Clean (tableFault s) → Distances s
@@ -33,8 +34,8 @@ distances s h =
     let a = if-passed Clean (refused 1) (tooShort s) _ (λ z. omega arith) h in
     let b = if-passed Clean (refused 2) (countsOff s) _ (λ z. omega arith) (a .1) in
     let d = if-passed Clean (refused 3) (distancesOff s) _ (λ z. omega arith) (b .1) in
-    let e = or-none (stateDistance s differs 2 * statesOf s + rulesOf s * ruleSize s || ruleDistance s differs rulesOf s * ruleSize s) _ (d .0) in
-    let f = or-none (stateDistance s differs 2 * statesOf s + rulesOf s * ruleSize s) _ (e .0) in
+    let e = or-none (stateDistance s differs recordsBytes (statesOf s) (rulesOf s) (typesByte s) || ruleDistance s differs rulesOf s * ruleSize s) _ (d .0) in
+    let f = or-none (stateDistance s differs recordsBytes (statesOf s) (rulesOf s) (typesByte s)) _ (e .0) in
     record { sizes = sized s (a .0) (b .0) (d .0); to-states = same _ _ (f .0); to-rules = same _ _ (f .1) }
 
 -- a list's last eight
@@ -56,7 +57,7 @@ last-eight s x e =
         drop-cons s (x + i) 0 (omega arith) ∙ ap (λ (y : ℕ). byteAt s (x + i) ∷ drop y s) z
 
 -- the trailer that a drawing of its counts is given is its own
-pub own-trailer : (s : List ℕ) → Distances s → ((x : ℕ) → byteAt s x < 256) → drop (length s - 8) s ≡ trailerFor (statesOf s) (rulesOf s) (typesOf s) (factorOf s)
+pub own-trailer : (s : List ℕ) → Distances s → ((x : ℕ) → byteAt s x < 256) → drop (length s - 8) s ≡ trailerFor (statesOf s) (rulesOf s) (typesByte s) (factorOf s)
 unfolding trailerFor
 own-trailer s d all =
     let x = length s - 8 in
@@ -64,17 +65,17 @@ own-trailer s d all =
     let o : x + 0 ≡ x = omega arith in
     let i₁ : x + 0 + 1 ≡ x + 1 = omega arith in
     let i₃ : x + 2 + 1 ≡ x + 3 = omega arith in
-    let u : byteAt s (x + 0) + 256 * byteAt s (x + 1) ≡ 2 * statesOf s + rulesOf s * ruleSize s = rw i₁ at (d .to-states) in
+    let u : byteAt s (x + 0) + 256 * byteAt s (x + 1) ≡ recordsBytes (statesOf s) (rulesOf s) (typesByte s) = rw i₁ at (d .to-states) in
     let v : byteAt s (x + 2) + 256 * byteAt s (x + 3) ≡ rulesOf s * ruleSize s = rw i₃ at (d .to-rules) in
-    let b₀ : byteAt s (x + 0) ≡ (2 * statesOf s + rulesOf s * ruleSize s) % 256 = omega (arith, u, all (x + 0)) in
-    let b₁ : byteAt s (x + 1) ≡ (2 * statesOf s + rulesOf s * ruleSize s) / 256 = omega (arith, u, all (x + 0)) in
+    let b₀ : byteAt s (x + 0) ≡ recordsBytes (statesOf s) (rulesOf s) (typesByte s) % 256 = omega (arith, u, all (x + 0)) in
+    let b₁ : byteAt s (x + 1) ≡ recordsBytes (statesOf s) (rulesOf s) (typesByte s) / 256 = omega (arith, u, all (x + 0)) in
     let b₂ : byteAt s (x + 2) ≡ (rulesOf s * ruleSize s) % 256 = omega (arith, v, all (x + 2)) in
     let b₃ : byteAt s (x + 3) ≡ (rulesOf s * ruleSize s) / 256 = omega (arith, v, all (x + 2)) in
     ap (λ (y : ℕ). drop y s) (sym o) ∙ last-eight s x z ∙
     (λ i. b₀ i ∷ b₁ i ∷ b₂ i ∷ b₃ i ∷ byteAt s (x + 4) ∷ byteAt s (x + 5) ∷ byteAt s (x + 6) ∷ byteAt s (x + 7) ∷ [])
 
 -- its records and that trailer are the table
-pub own-table : (s : List ℕ) → Distances s → ((x : ℕ) → byteAt s x < 256) → take (length s - 8) s ++ trailerFor (statesOf s) (rulesOf s) (typesOf s) (factorOf s) ≡ s
+pub own-table : (s : List ℕ) → Distances s → ((x : ℕ) → byteAt s x < 256) → take (length s - 8) s ++ trailerFor (statesOf s) (rulesOf s) (typesByte s) (factorOf s) ≡ s
 own-table s d all = ap (λ (w : List ℕ). take (length s - 8) s ++ w) (sym (own-trailer s d all)) ∙ take-append-drop (length s - 8) s
 
 -- counts that a table has are not strange
@@ -92,33 +93,33 @@ sized-counts s z =
     )
 
 -- ---- the table of a drawing
-module _ (w : List ℕ) (n m T k : ℕ) (e : length w ≡ 2 * n + m * (2 + 3 * T)) where
+module _ (w : List ℕ) (n m byte k : ℕ) (e : length w ≡ recordsBytes n m byte) where
   abbrev made : List ℕ
-  made = w ++ trailerFor n m T k
+  made = w ++ trailerFor n m byte k
 
   made-long : length made ≡ length w + 8
   unfolding trailerFor
-  made-long = length-append w (trailerFor n m T k)
+  made-long = length-append w (trailerFor n m byte k)
 
-  made-at : (i : ℕ) → byteAt made (length made - 8 + i) ≡ byteAt (trailerFor n m T k) i
-  made-at i = let z : length made - 8 ≡ length w = omega (arith, made-long) in rw z (getD-append-add w (trailerFor n m T k) i 0)
+  made-at : (i : ℕ) → byteAt made (length made - 8 + i) ≡ byteAt (trailerFor n m byte k) i
+  made-at i = let z : length made - 8 ≡ length w = omega (arith, made-long) in rw z (getD-append-add w (trailerFor n m byte k) i 0)
 
-  made-next : (i : ℕ) → byteAt made (length made - 8 + i + 1) ≡ byteAt (trailerFor n m T k) (i + 1)
+  made-next : (i : ℕ) → byteAt made (length made - 8 + i + 1) ≡ byteAt (trailerFor n m byte k) (i + 1)
   made-next i = let z : length made - 8 + i + 1 ≡ length made - 8 + (i + 1) = omega arith in rw z (made-at (i + 1))
 
   pub made-enough : tooShort made ≡ false
   unfolding tooShort
   made-enough = le-ltb (length made) 8 (omega (arith, made-long))
 
-  pub made-counts : countsOff made ≡ countsOutside n m T k
+  pub made-counts : countsOff made ≡ countsOutside n m (typesIn byte) k
   unfolding countsOff countsOutside trailerFor
   made-counts = rw (made-at 4, made-at 5, made-at 6, made-at 7)
 
-  to-states : stateDistance made ≡ 2 * n + m * (2 + 3 * T)
+  to-states : stateDistance made ≡ recordsBytes n m byte
   unfolding trailerFor
   to-states = rw (made-at 0, made-next 0) (omega arith)
 
-  to-rules : ruleDistance made ≡ m * (2 + 3 * T)
+  to-rules : ruleDistance made ≡ m * ruleBytes byte
   unfolding trailerFor
   to-rules = rw (made-at 2, made-next 2) (omega arith)
 
@@ -133,13 +134,13 @@ module _ (w : List ℕ) (n m T k : ℕ) (e : length w ≡ 2 * n + m * (2 + 3 * T
         made-at 6,
         made-long,
         e,
-        eq-eqb (2 * n + m * (2 + 3 * T)) (2 * n + m * (2 + 3 * T)) refl,
-        eq-eqb (m * (2 + 3 * T)) (m * (2 + 3 * T)) refl,
-        eq-eqb (2 * n + m * (2 + 3 * T) + 8) (2 * n + m * (2 + 3 * T) + 8) refl,
+        eq-eqb (recordsBytes n m byte) (recordsBytes n m byte) refl,
+        eq-eqb (m * ruleBytes byte) (m * ruleBytes byte) refl,
+        eq-eqb (recordsBytes n m byte + 8) (recordsBytes n m byte + 8) refl,
       )
 
   -- its trailer is not refused
-  pub made-records : countsOutside n m T k ≡ false → tableFault made ≡ recordsFault made
+  pub made-records : countsOutside n m (typesIn byte) k ≡ false → tableFault made ≡ recordsFault made
   unfolding tableFault _if_else_
   made-records h = rw (made-enough, made-counts, h, made-distances)
 
@@ -183,8 +184,9 @@ module _ (s : List ℕ) where
   unfolding ruleFault
   rule-later r =
       if-keeps Later 6 (noState s r) _ (λ _. later-above 6 (omega arith) (λ z. omega arith))
+      (λ _. if-keeps Later 9 (divisorOff s r) _ (λ _. later-above 9 (omega arith) (λ z. omega arith))
       (λ _. if-keeps Later 7 (forgets s r) _ (λ _. later-above 7 (omega arith) (λ z. omega arith))
-      (λ _. if-keeps Later 8 (sendsTwo s r) 0 (λ _. later-above 8 (omega arith) (λ z. omega arith)) (λ _. later-0)))
+      (λ _. if-keeps Later 8 (sendsTwo s r) 0 (λ _. later-above 8 (omega arith) (λ z. omega arith)) (λ _. later-0))))
 
   pub records-later : Later (recordsFault s .number)
   unfolding recordsFault

@@ -1,4 +1,3 @@
-pub mod Figures
 pub mod Demand2
 pub mod Demand1
 pub mod Agreed
@@ -7,6 +6,7 @@ pub mod FirstStep
 pub mod FirstCall
 pub mod FirstAgreed
 pub mod Demand3
+pub mod Thresholds
 pub mod OneEcho
 pub mod NoEcho
 pub mod OneAnswer

@@ -6,8 +6,9 @@ use lib.ListN.{length}
 use Rattle.senders.specs.Tally.{count, some}
 use Rattle.senders.specs.Set.{mem}
 use Rattle.fault.specs.Fault.{_if_else_, _▹_, firstFault}
-use Rattle.table.specs.Table.{ruleAt}
-use Rattle.table.specs.Refusals.{countsOutside, tooShort, countsOff, distancesOff, stateOff, noInitial, noState, forgets, sendsTwo, stateFault, ruleFault, recordsFault, tableFault}
+use Rattle.layout.specs.Layout.{typesIn, typeBytes, weightBytes, divisorAt, weightsAt, weightsOf}
+use Rattle.table.specs.Table.{ruleAt, ruleOf}
+use Rattle.table.specs.Refusals.{countsOutside, tooShort, countsOff, distancesOff, stateOff, noInitial, noState, divisorOff, forgets, sendsTwo, stateFault, ruleFault, recordsFault, tableFault}
 use Rattle.table.proofs.TableLaws.{well-formed, table-short}
 use Rattle.bundle.specs.Bundle.{frontLength, tableInUse, startsOf, levelOf}
 use Rattle.bundle.specs.Refusals.{readFault, noTrailer, outOfBundle, notAdmitted, stepsOff, notInitial, startFault, scheduleFault, faultWith}
@@ -15,7 +16,7 @@ use Rattle.bundle.proofs.BundleLaws.{read-by, read-short}
 use Rattle.paper.specs.Words.{size}
 use Rattle.paper.specs.Form.{wide}
 use Rattle.decimal.specs.Numbers.{decimal, signed}
-use Rattle.dot.specs.Text.{written, headText, joint, numbersText, labelText, stateText, ruleText, statesText, rulesText, tableText, drawingOf}
+use Rattle.dot.specs.Text.{written, headText, jointAt, numbersText, labelText, stateText, ruleText, statesText, rulesText, tableText, drawingOf}
 use Rattle.claims.specs.Demand1.{roomIn}
 use Rattle.claims.proofs.Demand1.{room-few}
 use Rattle.claims.proofs.LongestDrawing.{drawing-few}
@@ -24,28 +25,28 @@ use Rattle.claims.specs.Maxima.{largest, longest, Maxima}
 -- ---- the table
 table-accepted : tableFault largest .number ≡ 0
 unfolding
-    count some mem _if_else_ _▹_ firstFault ruleAt countsOutside tooShort countsOff distancesOff stateOff noInitial noState forgets sendsTwo stateFault ruleFault recordsFault tableFault
+    count some mem _if_else_ _▹_ firstFault typesIn typeBytes weightBytes divisorAt weightsAt weightsOf ruleAt ruleOf countsOutside tooShort countsOff distancesOff stateOff noInitial noState divisorOff forgets sendsTwo stateFault ruleFault recordsFault tableFault
 table-accepted = refl
 
-table-long : length largest ≡ 936
+table-long : length largest ≡ 1192
 table-long = refl
 
-drawing-long : length (drawingOf largest) ≡ 5773
-unfolding decimal signed _if_else_ written headText joint numbersText labelText stateText ruleText statesText rulesText tableText drawingOf
+drawing-long : length (drawingOf largest) ≡ 6286
+unfolding decimal signed _if_else_ typesIn typeBytes weightBytes written headText jointAt numbersText labelText stateText ruleText statesText rulesText tableText drawingOf
 drawing-long = refl
 
 -- ---- the bundle
 bundle-read : readFault longest [] .number ≡ 0
 unfolding
-    count some mem _if_else_ _▹_ firstFault ruleAt countsOutside tooShort countsOff distancesOff stateOff noInitial noState forgets sendsTwo stateFault ruleFault recordsFault tableFault
+    count some mem _if_else_ _▹_ firstFault typesIn typeBytes weightBytes divisorAt weightsAt weightsOf ruleAt ruleOf countsOutside tooShort countsOff distancesOff stateOff noInitial noState divisorOff forgets sendsTwo stateFault ruleFault recordsFault tableFault
     frontLength tableInUse startsOf noTrailer outOfBundle notAdmitted stepsOff notInitial startFault scheduleFault faultWith
 bundle-read = refl
 
 bundle-room : roomIn longest [] ≡ 580
-unfolding _if_else_ frontLength tableInUse levelOf wide size
+unfolding _if_else_ typesIn frontLength tableInUse levelOf wide size
 bundle-room = refl
 
-bundle-long : length longest ≡ 17392
+bundle-long : length longest ≡ 17648
 bundle-long = refl
 
 pub maxima : Maxima

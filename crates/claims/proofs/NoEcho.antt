@@ -14,8 +14,10 @@ use borrow.Author.Tests.{leb-true, ltb-true, ne-eqb, eq-eqb}
 use Rattle.senders.specs.Set.{mem}
 use Rattle.senders.proofs.TallyLaws.{count-none, count-at-most}
 use Rattle.senders.proofs.SetLaws.{set-laws, count-laws}
-use Rattle.threshold.specs.Threshold.{signedByte, thresholdOf}
-use Rattle.table.specs.Table.{ruleAt, ruleOf, coefficientsOf}
+use Rattle.threshold.specs.Threshold.{signedByte, sumOf}
+use Rattle.fault.specs.Fault.{_if_else_}
+use Rattle.layout.specs.Layout.{typesIn, typeBytes, weightBytes, divisorAt, weightsAt, weightsOf}
+use Rattle.table.specs.Table.{ruleAt, ruleOf, weightsFor}
 use Rattle.paper.specs.Paper.{Design, Conf, Step, Moves, column, newly}
 use Rattle.paper.specs.Words.{size, cellAt, sentAt, state, cell, sent, start}
 use Rattle.paper.specs.Form.{wide, shown}
@@ -43,13 +45,17 @@ use Rattle.first_step.specs.declared.First.{First}
 use Rattle.paper.specs.Order.{Found, none, found, first}
 use Rattle.first_step.specs.Entry.{answerOf, afterRun, firstAnswer}
 use Rattle.claims.specs.NoEcho.{echoTable, Quiet, Admits, designFor, fromV0, Never, Uses, front, beside, InV0, Configures, whole, stopped, NoEcho, Q5}
+use Rattle.claims.proofs.Thresholds.{met-by-sum}
 use Rattle.claims.proofs.FirstStep.{first-possible}
 use Rattle.claims.proofs.OneEcho.{one-enough}
 
 -- ---- what rules 1 and 2 ask for, from the table's bytes
+by-sum : (r n t c : ℕ) → 1 ≤ weightsFor echoTable r 0 .e → metAt echoTable r 0 n t c ≡ true → leZ (sumOf (weightsFor echoTable r 0) n t) (pos (c * weightsFor echoTable r 0 .e)) ≡ true
+by-sum r n t c e h = sym (met-by-sum echoTable r 0 n t c e) ∙ h
+
 one-asks : (n t c : ℕ) → metAt echoTable 1 0 n t c ≡ true → t < c
-unfolding metAt thresholdOf signedByte ruleAt ruleOf coefficientsOf
-one-asks n t c h = omega (arith, leb-true _ c h)
+unfolding sumOf signedByte ruleAt ruleOf typesIn typeBytes weightBytes divisorAt weightsAt weightsOf _if_else_
+one-asks n t c h = omega (arith, leb-true (0 * n + 1 * t + 1) (c * 1) (by-sum 1 n t c (omega arith) h))
 
 sub-met : (n t c : ℕ) → leZ (subℕ n t) (pos c) ≡ true → n ≤ c + t
 sub-met n t c h = go (ltb n t) refl h
@@ -63,8 +69,8 @@ minus-met a zero c h = omega (arith, leb-true _ c h)
 minus-met a (suc b) c h = sub-met a (suc b) c (rw +ℤ-idr at h)
 
 two-asks : (n t c : ℕ) → metAt echoTable 2 0 n t c ≡ true → n ≤ c + t
-unfolding metAt thresholdOf signedByte ruleAt ruleOf coefficientsOf
-two-asks n t c h = omega (arith, minus-met (1 * n) (1 * t) c h)
+unfolding sumOf signedByte ruleAt ruleOf typesIn typeBytes weightBytes divisorAt weightsAt weightsOf _if_else_
+two-asks n t c h = omega (arith, minus-met (1 * n) (1 * t) (c * 1) (by-sum 2 n t c (omega arith) h))
 
 -- ---- where nothing was sent, a board has heard from faulty ones only
 few-heard : (k C f : ℕ) (M : column k C f .Coll) → Within k C f M (column k C f .init) → column k C f .card M ≤ f
@@ -88,7 +94,7 @@ module _ (k C f t : ℕ) where
   from-V0 ℓ m h = absurd (true≢false (sym h ∙ set-laws .empty m))
 
   keeps : (r m : ℕ) → r < 7 → d .hasSent (d .from r) m ≡ true → d .hasSent (d .to r) m ≡ true
-  unfolding ruleAt
+  unfolding ruleAt typesIn typeBytes weightBytes _if_else_
   keeps zero m l h = h
   keeps (suc zero) m l h = from-V0 2 m h
   keeps (suc (suc zero)) m l h = from-V0 3 m h
@@ -99,6 +105,7 @@ module _ (k C f t : ℕ) where
   keeps (suc (suc (suc (suc (suc (suc (suc r))))))) m l h = absurd (omega arith)
 
   kept : Remembers d
+  unfolding typesIn _if_else_
   kept = record { few = omega arith; keeps = λ r m l _. keeps r m l }
 
   -- ---- the invariant, of a configuration
@@ -138,7 +145,7 @@ module _ (k C f t : ℕ) where
   module _ (A : Admits echoTable C f t) where
     -- of the rules that leave V0 only rule 0 can be met by f echoes
     rule-zero : (r c : ℕ) → r < 7 → 0 ≡ d .from r → d .met r 0 c ≡ true → c ≤ f → r ≡ 0
-    unfolding ruleAt
+    unfolding ruleAt typesIn typeBytes weightBytes _if_else_
     rule-zero zero c l e h b = refl
     rule-zero (suc zero) c l e h b = absurd (omega (arith, one-asks (C + f) t c h, A .faulty))
     rule-zero (suc (suc zero)) c l e h b = absurd (omega (arith, two-asks (C + f) t c h, A .faulty, A .enough))
@@ -151,15 +158,17 @@ module _ (k C f t : ℕ) where
     -- ---- a move
     module _ (s : Step) (σ σ′ : Conf (column k C f .Coll)) (S : Still σ) (a : Moves d (columnOf k d) s σ σ′) where
       few : column k C f .card (σ′ .rcvd (s .board) 0) ≤ f
+      unfolding typesIn _if_else_
       few =
           few-heard k C f (σ′ .rcvd (s .board) 0)
           (subst (Within k C f (σ′ .rcvd (s .board) 0)) (S .sents 0 (omega arith)) (heard-within k d kept s σ σ′ a (S .sound) (s .board) 0 (a .board) (omega arith)))
 
       by-zero : s .rule ≡ 0
+      unfolding typesIn _if_else_
       by-zero = rule-zero (s .rule) _ (a .local .rule) (sym (S .states (s .board) (a .board)) ∙ a .local .leaves) (a .local .met 0 (omega arith)) few
 
       to-V0 : σ′ .pc (s .board) ≡ 0
-      unfolding ruleAt
+      unfolding ruleAt typesIn typeBytes weightBytes _if_else_
       to-V0 = a .local .enters ∙ ap (d .to) by-zero
 
       still-states : (p : ℕ) → p < C → σ′ .pc p ≡ 0

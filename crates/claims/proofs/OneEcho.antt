@@ -7,8 +7,9 @@ use lib.ListN.{getD, replicate}
 use Rattle.fault.specs.declared.Answer.{Answer}
 use Rattle.bundle.specs.Bundle.{frontLength, startsOf}
 use Rattle.paper.specs.Words.{state}
-use Rattle.claims.specs.NoEcho.{asking, oneEcho, beside, InV0, whole, NoEcho}
-use Rattle.claims.proofs.Figures.{one-enough-holds}
+use Rattle.echo.specs.Echo.{asking, oneEcho}
+use Rattle.figures.proofs.Outline.{one-enough-holds}
+use Rattle.claims.specs.NoEcho.{beside, InV0, whole, NoEcho}
 
 in-V0 : InV0 (asking 0) (oneEcho 1 0 3) (asking 0)
 unfolding frontLength startsOf

@@ -1,5 +1,5 @@
--- Drawings of a table (Q-1, "read back exactly what we write, to the same table bytes"), as the two calls see them: there and back, with any
--- blanks; 60 and its place; what a drawing is answered; what one blank more changes. Proofs: proofs/Drawings.antt.
+-- Drawings of a table (Q-1, "read back exactly what we write, to the same table bytes"), of either edition (Q-7), as the two calls see them:
+-- there and back, with any blanks; 60 and its place; what a drawing is answered; what one blank more changes. Proofs: proofs/Drawings.antt.
 use mathlib.Core.Path.{_≡_}
 use mathlib.Core.Bool.{true, false, _&&_}
 use mathlib.Core.List.{List, _∷_, _++_}
@@ -10,7 +10,8 @@ use Rattle.fault.specs.declared.Answer.{Answer}
 use Rattle.fault.specs.Bytes.{byteAt}
 use Rattle.fault.specs.Tests.{_atMost_}
 use Rattle.fault.specs.Fault.{refused, nothingDone, _if_else_}
-use Rattle.table.specs.Table.{statesOf, rulesOf, typesOf, factorOf}
+use Rattle.layout.specs.Layout.{typesIn}
+use Rattle.table.specs.Table.{statesOf, rulesOf, typesByte, factorOf}
 use Rattle.table.specs.Refusals.{countsOutside, tableFault}
 use Rattle.dot.specs.Text.{isBlank, Piece, space, Spaced, tableText, drawingOf}
 use Rattle.dot.specs.Plan.{header}
@@ -39,7 +40,7 @@ pub record ThereAndBack (s : List ℕ) : Type 0 where
   -- undrawing it gives the same bytes
   pub back : Gives (undrawAnswer (drawingOf s)) (undrawBytes (drawingOf s)) s
   -- and so with any blanks between the drawing's tokens
-  pub spaced : (t : List ℕ) → Spaced (tableText (typesOf s) (factorOf s) (statesOf s) (rulesOf s) s) t → Gives (undrawAnswer t) (undrawBytes t) s
+  pub spaced : (t : List ℕ) → Spaced (tableText (typesByte s) (factorOf s) (statesOf s) (rulesOf s) s) t → Gives (undrawAnswer t) (undrawBytes t) s
 
 -- ---- a text that is no drawing: 60 with its exact place, whatever the room, and no byte changes
 pub record NoDrawing (t : List ℕ) : Type 0 where
@@ -55,12 +56,12 @@ tableIn d = d .body ++ trailerFor (d .states) (d .rules) (d .types) (d .factor)
 
 pub record Answered (t : List ℕ) (d : Drawing t) : Type 0 where
   -- 2 where a count or k is none of a table
-  pub counts : countsOutside (d .states) (d .rules) (d .types) (d .factor) ≡ true → (lent : ℕ) → undrawAnswer t lent ≡ nothingDone (refused 2)
+  pub counts : countsOutside (d .states) (d .rules) (typesIn (d .types)) (d .factor) ≡ true → (lent : ℕ) → undrawAnswer t lent ≡ nothingDone (refused 2)
   -- else what the table is refused for
-  pub off : countsOutside (d .states) (d .rules) (d .types) (d .factor) ≡ false → (tableFault (tableIn d) .number ≡ 0 → ⊥) →
+  pub off : countsOutside (d .states) (d .rules) (typesIn (d .types)) (d .factor) ≡ false → (tableFault (tableIn d) .number ≡ 0 → ⊥) →
       (lent : ℕ) → undrawAnswer t lent ≡ nothingDone (tableFault (tableIn d))
   -- else the table
-  pub table : countsOutside (d .states) (d .rules) (d .types) (d .factor) ≡ false → tableFault (tableIn d) .number ≡ 0 →
+  pub table : countsOutside (d .states) (d .rules) (typesIn (d .types)) (d .factor) ≡ false → tableFault (tableIn d) .number ≡ 0 →
       Gives (undrawAnswer t) (undrawBytes t) (tableIn d)
   -- its trailer is always right, and it is a drawing
   pub never-1 : (lent : ℕ) → undrawAnswer t lent .refusal ≡ 1 → ⊥
@@ -97,11 +98,11 @@ pub record Drawings : Type 0 where
   -- Q-1: a drawing is answered as the table that it draws
   pub drawing : (t : List ℕ) (d : Drawing t) → Answered t d
   -- Q-1: blanks added between tokens change no answer of a drawing
-  pub same-tokens : (t u : List ℕ) (T k n m : ℕ) (s : List ℕ) → Tokens t T k n m s → Tokens u T k n m s → SameAnswer t u
+  pub same-tokens : (t u : List ℕ) (byte k n m : ℕ) (s : List ℕ) → Tokens t byte k n m s → Tokens u byte k n m s → SameAnswer t u
   -- Q-1: and of no text more than the place of a fault that comes after them, where two tokens meet and no number is parted
   pub blank : (p q : List ℕ) (c : ℕ) → isBlank c ≡ true → Gap p → (endsDigit p && beginsDigit q) ≡ false → Inserted p q c
   -- and two tokens meet wherever a drawing has a gap: after the pieces a, whose text is p, and before the pieces b, whose text is u
-  pub gaps : (T k n m : ℕ) (s p u : List ℕ) (a b : List Piece) (d : List ℕ) → Tokens (p ++ u) T k n m s → tableText T k n m s ≡ a ++ (space d ∷ b) →
+  pub gaps : (byte k n m : ℕ) (s p u : List ℕ) (a b : List Piece) (d : List ℕ) → Tokens (p ++ u) byte k n m s → tableText byte k n m s ≡ a ++ (space d ∷ b) →
       Spaced a p → Spaced b u → beginsBlank u ≡ false → Gap p
   -- the same by the plan, which also tells digits that are no part of a number, as the 6 of 256
   pub blank-by-plan : (p q : List ℕ) (c : ℕ) → isBlank c ≡ true → BetweenTokens p q → Inserted p q c

@@ -1,10 +1,10 @@
-pub mod Figures
 pub mod Demand2
 pub mod Demand1
 pub mod Agreed
 pub mod Plain
 pub mod FirstStep
 pub mod Demand3
+pub mod Thresholds
 pub mod NoEcho
 pub mod OneAnswer
 pub mod Drawings

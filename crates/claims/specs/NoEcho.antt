@@ -17,14 +17,9 @@ use Rattle.engine.specs.Design.{designIn}
 use Rattle.engine.specs.Entry.{runAnswer, runWords}
 use Rattle.first_step.specs.declared.First.{First}
 use Rattle.first_step.specs.Entry.{firstAnswer}
-use Rattle.echo.specs.Echo.{echo}
+use Rattle.echo.specs.Echo.{echo, asking}
 
--- ---- the echo table, by what its rule 1 asks for
--- x as the byte d of rule 1: t + x echoes. Before it stand 8 bytes of states, 5 of rule 0, and from, to, a, b (outline, "Bundle layout")
-abbrev pub asking : ℕ → List ℕ
-asking x = set echo 17 x
-
--- the outline's table asks for t + 1
+-- ---- the echo table, by what its rule 1 asks for: the outline's asks for t + 1
 abbrev pub echoTable : List ℕ
 echoTable = asking 1
 
@@ -84,10 +79,6 @@ pub record NoEcho (table : List ℕ) : Type 0 where
       → Quiet (levelOf (formOf b)) (designIn b standing) (runWords b standing words)
   -- `first_step` names no rule but rule 0
   pub firsts : (b standing : List ℕ) → InV0 table b standing → (p r m q : ℕ) → firstAnswer b standing ≡ First.Step p r m q → r ≡ 0
-
--- three boards in V0, n = 4, t = f = 1, and one step: board 0 takes a rule on one echo, from this source of this form
-abbrev pub oneEcho : ℕ → ℕ → ℕ → List ℕ
-oneEcho rule form source = 0 ∷ 0 ∷ 0 ∷ 0 ∷ rule ∷ 0 ∷ source ∷ 4 ∷ 0 ∷ 7 ∷ 0 ∷ 4 ∷ 1 ∷ 1 ∷ form ∷ []
 
 pub record Q5 : Type 0 where
   pub holds : NoEcho echoTable

@@ -1,5 +1,5 @@
 -- Every text that fits is read to its end: no item takes a byte that the one before it would take.
-use Prim.Native.Nat.{ℕ, zero, suc, _≤_, _<_, _-_, _+_, _*_, _%_}
+use Prim.Native.Nat.{ℕ, zero, suc, _≤_, _<_, _-_, _+_, _%_}
 use mathlib.Core.Path.{_≡_, refl, sym, ap, _∙_}
 use mathlib.Core.Bool.{Bool, true, false, cond, _&&_, _||_, not, false≢true}
 use mathlib.Core.List.{List, [], _∷_, _++_}
@@ -12,12 +12,14 @@ use Rattle.decimal.specs.Numbers.{text, decimal}
 use Rattle.decimal.specs.Digits.{isDigit}
 use Rattle.decimal.proofs.DigitLaws.{digit-range, goes-on-other}
 use Rattle.decimal.proofs.NumberLaws.{NoDigit, number-reads}
-use Rattle.dot.specs.Text.{isBlank, joint}
-use Rattle.dot.specs.Plan.{Slot, cell, coefficient, One, byte, blank as one-blank, line, kind, Item, gap, num, one, plan, bytes, lines, header, named, numbers, label, stateLine, ruleLine, ending}
+use Rattle.dot.specs.declared.Shape.{Shape}
+use Rattle.dot.specs.Text.{isBlank, stateShape, ruleShape, jointAt, joint}
+use Rattle.dot.specs.Plan.{Slot, One, byte, blank as one-blank, line, kind, Item, gap, num, one, plan, bytes, lines, header, named, numbers, label, stateLine, ruleLine, ending}
 use Rattle.dot.specs.Reading.{Num, none, minus, some, canMinus, limit, grown, no-more, grow, begun, byteOf, Gathered, put, newState, newRule, nextState, Turn, halt, to, take1, ByteStep, stuck, at, growing, whole, next, ended, drawn, fault, shifted, onward, run}
 use Rattle.dot.proofs.Fits.{spell, allowed, Fits, done, blank, no-blank, number, single}
 use Rattle.senders.proofs.TallyLaws.{and-both as both}
-use Rattle.table.specs.Table.{typeBytes}
+use Rattle.layout.specs.Layout.{weightBytes}
+use Rattle.table.specs.Table.{stateBytes}
 use Rattle.dot.proofs.NumberLaws.{join, limit-most, negative, positive}
 use Rattle.dot.proofs.Digits.{shifted-none, first-made, grow-first, reads-longest}
 
@@ -61,34 +63,34 @@ neat-bytes [] k n = n
 neat-bytes (c ∷ w) k n = neat-bytes w k n
 
 -- a number of a label ends where the next joint or the quote begins
-joint-ends : (j : ℕ) (k : List Item) → noDigit (bytes (joint (j + 1)) k) ≡ true
-unfolding joint _if_else_ isDigit
-joint-ends j k = rw (ne-eqb (j + 1) 0 (λ e. omega arith)) (split (eqb ((j + 1) % typeBytes) 0))
+joint-ends : (shape : Shape) (j : ℕ) (k : List Item) → noDigit (bytes (joint shape (j + 1)) k) ≡ true
+unfolding jointAt _if_else_ isDigit
+joint-ends shape j k = rw (ne-eqb (j + 1) 0 (λ e. omega arith)) (split (eqb ((j + 1) % shape .group) 0))
   where
     split : (b : Bool) → noDigit (bytes (cond b (text ", ") (text " ")) k) ≡ true
     split true = refl
     split false = refl
 
 -- whether it is the last number or not
-number-ends : (s : Slot) (g j : ℕ) (k : List Item) → noDigit k ≡ true → noDigit (numbers s g (j + 1) k) ≡ true
-number-ends s zero j k d = d
-number-ends s (suc g) j k d = joint-ends j (num s ∷ numbers s g (j + 1 + 1) k)
+number-ends : (shape : Shape) (g j : ℕ) (k : List Item) → noDigit k ≡ true → noDigit (numbers shape g (j + 1) k) ≡ true
+number-ends shape zero j k d = d
+number-ends shape (suc g) j k d = joint-ends shape j _
 
 -- the numbers of a label
-neat-numbers : (s : Slot) (g j : ℕ) (k : List Item) → noDigit k ≡ true → Neat k → Neat (numbers s g j k)
-neat-numbers s zero j k d n = n
-neat-numbers s (suc g) j k d n =
-    neat-bytes (joint j) _ (join _ (neat (numbers s g (j + 1) k)) (number-ends s g j k d) (neat-numbers s g (j + 1) k d n))
+neat-numbers : (shape : Shape) (g j : ℕ) (k : List Item) → noDigit k ≡ true → Neat k → Neat (numbers shape g j k)
+neat-numbers shape zero j k d n = n
+neat-numbers shape (suc g) j k d n =
+    neat-bytes (joint shape j) _ (join _ (neat (numbers shape g (j + 1) k)) (number-ends shape g j k d) (neat-numbers shape g (j + 1) k d n))
 
--- a label of any slot and size
-neat-label : (s : Slot) (g : ℕ) → Neat (label s g)
+-- a label of any shape and size
+neat-label : (shape : Shape) (g : ℕ) → Neat (label shape g)
 unfolding isBlank isDigit
-neat-label s g = neat-numbers s g 0 (plan (text "\"~]~;") lines) refl refl
+neat-label shape g = neat-numbers shape g 0 (plan (text "\"~]~;") lines) refl refl
 
--- a rule's line for any number of types
-neat-rule : (T : ℕ) → Neat (ruleLine T)
+-- a rule's line for any types byte
+neat-rule : (b : ℕ) → Neat (ruleLine b)
 unfolding isBlank isDigit
-neat-rule T = neat-label coefficient (typeBytes * T)
+neat-rule b = neat-label (ruleShape b) (weightBytes b)
 
 -- the plan after an item of one byte is neat
 abbrev NeatTurn : Turn → Type 0
@@ -110,7 +112,7 @@ neat-turn line k r c n =
     (neat-either (eqb c 115) (to named r) halt refl tt)
 neat-turn kind k r c n =
     neat-either (eqb c 91) (cond (nextState r) (to stateLine (newState r)) halt) (cond (eqb c 45) (to (ruleLine (r .types)) (newRule r)) halt)
-    (neat-either (nextState r) (to stateLine (newState r)) halt (neat-label cell 2) tt)
+    (neat-either (nextState r) (to stateLine (newState r)) halt (neat-label stateShape stateBytes) tt)
     (neat-either (eqb c 45) (to (ruleLine (r .types)) (newRule r)) halt (neat-rule (r .types)) tt)
 
 -- ---- the next item begins where a gap or a number ends

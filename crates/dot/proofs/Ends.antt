@@ -1,5 +1,5 @@
 -- Every plan can be gone through to its end, from any point.
-use Prim.Native.Nat.{ℕ, zero, suc, _+_, _*_}
+use Prim.Native.Nat.{ℕ, zero, suc, _+_}
 use mathlib.Core.Path.{_≡_, refl}
 use mathlib.Core.Bool.{Bool, true, false, cond}
 use mathlib.Core.List.{List, [], _∷_, append-nil}
@@ -7,10 +7,11 @@ use native.Mathlib.Omega.{arith}
 use lib.Dec.{eqb}
 use borrow.Author.Tests.{eq-eqb}
 use Rattle.fault.specs.Fault.{_if_else_}
-use Rattle.table.specs.Table.{typeBytes}
+use Rattle.layout.specs.Layout.{weightBytes}
 use Rattle.decimal.specs.Numbers.{text, decimal}
-use Rattle.dot.specs.Text.{isBlank, joint}
-use Rattle.dot.specs.Plan.{Slot, cell, coefficient, byte, blank as one-blank, line, kind, Item, gap, num, one, plan, bytes, numbers, label, ruleLine}
+use Rattle.dot.specs.declared.Shape.{Shape}
+use Rattle.dot.specs.Text.{isBlank, ruleShape, joint}
+use Rattle.dot.specs.Plan.{Slot, cell, byte, blank as one-blank, line, kind, Item, gap, num, one, plan, bytes, numbers, label, ruleLine}
 use Rattle.dot.specs.Reading.{Num, none, minus, some, canMinus, byteOf, Gathered, put, newRule, to, take1}
 use Rattle.dot.proofs.Fits.{spell, Fits, done, no-blank, number, single}
 use Rattle.dot.proofs.NumberLaws.{limit-least, positive-allowed, negative-allowed}
@@ -85,19 +86,19 @@ plan-finishes [] k g = g
 plan-finishes (c ∷ w) k g = item-ends (eqb c 126) (eqb c 95) c (plan w k) (plan-finishes w k g)
 
 -- a label's numbers
-numbers-finish : (s : Slot) (g j : ℕ) (k : List Item) → AllEnd k → AllEnd (numbers s g j k)
-numbers-finish s zero j k f = f
-numbers-finish s (suc g) j k f = bytes-end (joint j) _ (num-ends s _ (numbers-finish s g (j + 1) k f))
+numbers-finish : (shape : Shape) (g j : ℕ) (k : List Item) → AllEnd k → AllEnd (numbers shape g j k)
+numbers-finish shape zero j k f = f
+numbers-finish shape (suc g) j k f = bytes-end (joint shape j) _ (num-ends _ _ (numbers-finish shape g (j + 1) k f))
 
 -- a label and the lines after it
-label-finishes : (s : Slot) (g : ℕ) → AllEnd (label s g)
-label-finishes s g =
+label-finishes : (shape : Shape) (g : ℕ) → AllEnd (label shape g)
+label-finishes shape g =
     plan-finishes (text "~label~=~\"") _
-    (numbers-finish s g 0 _ (plan-finishes (text "\"~]~;") _ (gap-finishes _ (line-finishes []))))
+    (numbers-finish shape g 0 _ (plan-finishes (text "\"~]~;") _ (gap-finishes _ (line-finishes []))))
 
--- a rule's line for any number of types
-rule-finishes : (T : ℕ) → AllEnd (ruleLine T)
-rule-finishes T = plan-finishes (text ">~s") _ (num-ends cell _ (plan-finishes (text "~[") _ (label-finishes coefficient (typeBytes * T))))
+-- a rule's line for any types byte
+rule-finishes : (b : ℕ) → AllEnd (ruleLine b)
+rule-finishes b = plan-finishes (text ">~s") _ (num-ends cell _ (plan-finishes (text "~[") _ (label-finishes (ruleShape b) (weightBytes b))))
 
 -- by `-`: a rule may follow any name
 kind-ends : (k : List Item) → AllEnd (one kind ∷ k)

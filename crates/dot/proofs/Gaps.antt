@@ -9,13 +9,15 @@ use borrow.Author.Tests.{eqb-true, not-true, ne-eqb}
 use Rattle.fault.specs.Fault.{_if_else_}
 use Rattle.decimal.specs.Numbers.{text}
 use Rattle.decimal.specs.Digits.{isDigit, goesOn}
-use Rattle.dot.specs.Text.{isBlank, joint, Piece, space, Spaced, over, letter, one-more, no-more as no-blank, needed, tableText}
-use Rattle.dot.specs.Plan.{Slot, cell, coefficient, One, byte, blank as one-blank, line, kind, Item, gap, num, one, plan, bytes, lines, header, named, numbers, label, stateLine, ruleLine, ending}
+use Rattle.dot.specs.declared.Shape.{Shape}
+use Rattle.dot.specs.Text.{isBlank, stateShape, ruleShape, jointAt, joint, negative, Piece, space, Spaced, over, letter, one-more, no-more as no-blank, needed, tableText}
+use Rattle.dot.specs.Plan.{Slot, cellOf, One, byte, blank as one-blank, line, kind, Item, gap, num, one, plan, bytes, lines, header, named, numbers, label, stateLine, ruleLine, ending}
 use Rattle.dot.specs.Reading.{Num, none, minus, some, canMinus, limit, Grown, grown, no-more, grow, byteOf, Gathered, nothingRead, put, newState, newRule, nextState, Turn, halt, to, take1, ByteStep, stuck, at, turned, growing, whole, next, ended, Outcome, drawn, fault, later, onward, run, reading}
 use Rattle.dot.specs.Drawing.{Tokens, Drawing}
 use Rattle.dot.specs.Blanks.{go-on, reach, Between, BetweenAt, beginsBlank, beginsDigit, endsDigit, Gap}
 use Rattle.senders.proofs.TallyLaws.{and-both as both}
-use Rattle.table.specs.Table.{typeBytes}
+use Rattle.layout.specs.Layout.{weightBytes}
+use Rattle.table.specs.Table.{stateBytes}
 use Rattle.dot.proofs.NumberLaws.{join}
 use Rattle.dot.proofs.Complete.{no-digit}
 use Rattle.dot.proofs.Tokens.{tokens-read}
@@ -45,25 +47,26 @@ fair-bytes [] k h = h
 fair-bytes (c ∷ w) k h = fair-bytes w k h
 
 -- what comes after a label's number
-number-firm : (s : Slot) (g j : ℕ) (k : List Item) → firm k ≡ true → firm (numbers s g (j + 1) k) ≡ true
-unfolding joint _if_else_
-number-firm s zero j k h = h
-number-firm s (suc g) j k h = rw (ne-eqb (j + 1) 0 (λ e. omega arith)) (go (eqb ((j + 1) % typeBytes) 0))
+number-firm : (shape : Shape) (g j : ℕ) (k : List Item) → firm k ≡ true → firm (numbers shape g (j + 1) k) ≡ true
+unfolding jointAt _if_else_
+number-firm shape zero j k h = h
+number-firm shape (suc g) j k h = rw (ne-eqb (j + 1) 0 (λ e. omega arith)) (go (eqb ((j + 1) % shape .group) 0))
   where
-    go : (t : Bool) → firm (bytes (cond t (text ", ") (text " ")) (num s ∷ numbers s g (j + 1 + 1) k)) ≡ true
+    go : (t : Bool) → firm (bytes (cond t (text ", ") (text " ")) (num (cellOf (negative shape (j + 1))) ∷ numbers shape g (j + 1 + 1) k)) ≡ true
     go true = refl
     go false = refl
 
-fair-numbers : (s : Slot) (g j : ℕ) (k : List Item) → firm k ≡ true → fair k ≡ true → fair (numbers s g j k) ≡ true
-fair-numbers s zero j k f h = h
-fair-numbers s (suc g) j k f h = fair-bytes (joint j) _ (join _ (fair (numbers s g (j + 1) k)) (number-firm s g j k f) (fair-numbers s g (j + 1) k f h))
+fair-numbers : (shape : Shape) (g j : ℕ) (k : List Item) → firm k ≡ true → fair k ≡ true → fair (numbers shape g j k) ≡ true
+fair-numbers shape zero j k f h = h
+fair-numbers shape (suc g) j k f h =
+    fair-bytes (joint shape j) _ (join _ (fair (numbers shape g (j + 1) k)) (number-firm shape g j k f) (fair-numbers shape g (j + 1) k f h))
 
-fair-label : (s : Slot) (g : ℕ) → fair (label s g) ≡ true
-fair-label s g = fair-numbers s g 0 (plan (text "\"~]~;") lines) refl refl
+fair-label : (shape : Shape) (g : ℕ) → fair (label shape g) ≡ true
+fair-label shape g = fair-numbers shape g 0 (plan (text "\"~]~;") lines) refl refl
 
-fair-rule : (T : ℕ) → fair (ruleLine T) ≡ true
+fair-rule : (b : ℕ) → fair (ruleLine b) ≡ true
 unfolding ended
-fair-rule T = fair-label coefficient (typeBytes * T)
+fair-rule b = fair-label (ruleShape b) (weightBytes b)
 
 -- after an item of one byte, and after any byte
 abbrev FairTurn : Turn → Type 0
@@ -87,7 +90,7 @@ fair-turn line k r c h =
     (either (eqb c 115) (to named r) halt refl tt)
 fair-turn kind k r c h =
     either (eqb c 91) (cond (nextState r) (to stateLine (newState r)) halt) (cond (eqb c 45) (to (ruleLine (r .types)) (newRule r)) halt)
-    (either (nextState r) (to stateLine (newState r)) halt (fair-label cell 2) tt)
+    (either (nextState r) (to stateLine (newState r)) halt (fair-label stateShape stateBytes) tt)
     (either (eqb c 45) (to (ruleLine (r .types)) (newRule r)) halt (fair-rule (r .types)) tt)
 
 fair-turned : (t : Turn) → FairTurn t → FairStep (turned t)
@@ -301,16 +304,16 @@ spaced-append (one-more h r) s = one-more h (spaced-append r s)
 spaced-append (no-blank r) s = no-blank (spaced-append r s)
 spaced-append (needed h r) s = needed h (spaced-append r s)
 
--- p has the tokens before the gap, u those after it
-pub tokens-gap : (T k n m : ℕ) (s p u : List ℕ) (a b : List Piece) (d : List ℕ) → Tokens (p ++ u) T k n m s → tableText T k n m s ≡ a ++ (space d ∷ b) →
+-- p has the tokens before the gap, u those after it; B is the types byte
+pub tokens-gap : (B k n m : ℕ) (s p u : List ℕ) (a b : List Piece) (d : List ℕ) → Tokens (p ++ u) B k n m s → tableText B k n m s ≡ a ++ (space d ∷ b) →
     Spaced a p → Spaced b u → beginsBlank u ≡ false → Gap p
-tokens-gap T k n m s p u a b d t e f g h =
+tokens-gap B k n m s p u a b d t e f g h =
     record {
       rest = u;
       solid = h;
-      tight = record { types = T; factor = k; states = n; rules = m; body = s; tokens = t };
+      tight = record { types = B; factor = k; states = n; rules = m; body = s; tokens = t };
       apart = λ c z. record {
-        types = T;
+        types = B;
         factor = k;
         states = n;
         rules = m;

@@ -90,7 +90,7 @@ since-keeps =
       rules = λ r. (r .last ∷ [], refl, omega arith);
     }
 
--- T, k, the number of states, the last name and all bytes are in range
+-- the types byte, k, the number of states, the last name and all bytes are in range
 abbrev pub Ranged : Gathered → Type 0
 Ranged r = (r .types ≤ 255) × (r .factor ≤ 255) × (r .states ≤ 256) × (r .last ≤ 255) × ((x : ℕ) → byteAt (r .body) x < 256)
 

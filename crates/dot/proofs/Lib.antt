@@ -1,3 +1,4 @@
+pub mod ShapeLaws
 pub mod Fits
 pub mod NumberLaws
 pub mod Digits

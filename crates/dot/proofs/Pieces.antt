@@ -7,7 +7,7 @@ use lib.Dec.{eqb}
 use borrow.Author.Tests.{eqb-true}
 use Rattle.decimal.specs.Numbers.{spelling}
 use Rattle.dot.specs.Text.{isBlank, Piece, char, space, must, Spaced, over, letter, one-more, no-more, needed, chars, after}
-use Rattle.dot.specs.Plan.{Slot, One, byte, blank as one-blank, Item, gap, num, one, bytes}
+use Rattle.dot.specs.Plan.{Slot, cell, cellOf, One, byte, blank as one-blank, Item, gap, num, one, bytes}
 use Rattle.dot.specs.Reading.{Num, none, some, canMinus, byteOf, Gathered, put, Turn, halt, to, take1, turned}
 use Rattle.dot.proofs.Fits.{spell, Fits, done, blank, no-blank, number, single}
 use Rattle.dot.proofs.NumberLaws.{byte-spelt, has-byte}
@@ -72,6 +72,13 @@ num-goes s b {p} {k} {r} {q} l g t x =
     let h = cut (spelling (canMinus s) b) p t x in
     let f : Goes p k (put s (byteOf (e .below-0) (e .size)) r) q = rw (e .the-byte) g in
     rw (h .whole) (number (e .below-0) (e .size) (spelling (canMinus s) b) (e .in-range) (e .the-text) (f (h .rest) (h .spaced)))
+
+-- a number of a label, which may be below 0 or not
+pub cell-goes : (n : Bool) (b : ℕ) {p : List Piece} {k : List Item} {r q : Gathered} → b < 256 → Goes p k (put cell b r) q →
+    Goes (chars (spelling n b) p) (num (cellOf n) ∷ k) r q
+unfolding canMinus put
+cell-goes true b l g = num-goes (cellOf true) b l g
+cell-goes false b l g = num-goes (cellOf false) b l g
 
 -- ---- a text that fits, from its front
 -- the pieces f have been read back, and the rest fits k
@@ -154,6 +161,17 @@ num-rest (number {s = s} {t = t} n v d ok h f) =
       value = byteOf n v;
       rest = record { rest = t; fits = f; spaced = λ p x. rw (h, e .its-text) (chars-spaced (spell (some n v)) p t x) };
     }
+
+-- a number of a label
+pub record CellRest (n : Bool) (k : List Item) (r q : Gathered) (t : List ℕ) : Type 0 where
+  pub value : ℕ
+  pub rest : RestFits (chars (spelling n value)) k (put cell value r) q t
+
+-- is a byte more of the records, whether it may be below 0 or not
+pub cell-rest : (n : Bool) {k : List Item} {r q : Gathered} {t : List ℕ} → Fits (num (cellOf n) ∷ k) r none t q → CellRest n k r q t
+unfolding canMinus put
+cell-rest true f = let e = num-rest f in record { value = e .value; rest = e .rest }
+cell-rest false f = let e = num-rest f in record { value = e .value; rest = e .rest }
 
 -- one byte further
 pub on-byte : {f : List Piece → List Piece} {k k′ : List Item} {r r′ q : Gathered} {t : List ℕ} (g : RestFits f k r q t) (c b : ℕ) (u : List ℕ) →

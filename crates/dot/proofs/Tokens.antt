@@ -9,17 +9,19 @@ use lib.Dec.{eqb}
 use lib.ListN.{length, take, length-append, length-take}
 use lib.Seq.{length-take-le, take-length, getD-at}
 use Rattle.fault.specs.Bytes.{byteAt}
-use Rattle.table.specs.Table.{typeBytes, ruleBytes, stateBytes, endBytes, recordsBytes}
+use Rattle.layout.specs.Layout.{weightBytes, ruleBytes, endBytes}
+use Rattle.table.specs.Table.{stateBytes, recordsBytes}
 use Rattle.decimal.specs.Numbers.{text, decimal, spelling}
-use Rattle.dot.specs.Text.{Piece, space, Spaced, over, chars, after, newLine, tight, aBlank, joint, numbersText, labelText, stateText, ruleText, statesText, rulesText, endText, headText, tableText}
-use Rattle.dot.specs.Plan.{Slot, types, factor, cell, coefficient, line, kind, Item, gap, num, one, lines, ending, named, numbers, label, stateLine, ruleLine}
+use Rattle.dot.specs.declared.Shape.{Shape}
+use Rattle.dot.specs.Text.{Piece, space, Spaced, over, chars, after, newLine, tight, aBlank, stateShape, ruleShape, joint, negative, numbersText, labelText, stateText, ruleText, statesText, rulesText, endText, headText, tableText}
+use Rattle.dot.specs.Plan.{types, factor, cellOf, line, kind, Item, gap, num, one, lines, ending, named, numbers, label, stateLine, ruleLine}
 use Rattle.dot.specs.Reading.{none, canMinus, Gathered, nothingRead, put, newState, newRule, nextState, halt, to, take1, turned, drawn, reading}
 use Rattle.dot.specs.Drawing.{Tokens}
 use Rattle.dot.proofs.Fits.{Fits, done, Draws}
 use Rattle.dot.proofs.Sound.{Then}
-use Rattle.dot.proofs.Written.{Adds, seen, seen-put, seen-rule, table-read}
+use Rattle.dot.proofs.Written.{seen, seen-put, seen-rule, table-read}
 use Rattle.dot.proofs.KeepLaws.{kept, since-keeps, Ranged, state-named, ranged-keeps}
-use Rattle.dot.proofs.Pieces.{RestFits, _▸_, taken, byte-rest, bytes-rest, must-rest, gap-rest, after-rest, num-rest, on-byte}
+use Rattle.dot.proofs.Pieces.{RestFits, _▸_, taken, byte-rest, bytes-rest, must-rest, gap-rest, after-rest, num-rest, cell-rest, on-byte}
 
 -- ---- lines
 -- what was read next is the next byte of all that is read in the end
@@ -79,10 +81,10 @@ nothing-left done = (refl, over)
 abbrev named-by : ℕ → List ℕ → List Piece → List Piece
 named-by v c p = after newLine (text "s") (chars (decimal v) (after aBlank c p))
 
-module _ (q : Gathered) (T k : ℕ) where
+module _ (q : Gathered) (byte k : ℕ) where
   -- n states, m rules and j bytes of all that is read in the end
   abbrev so-far : ℕ → ℕ → ℕ → ℕ → Gathered
-  so-far = seen (q .body) T k
+  so-far = seen (q .body) byte k
 
   -- f has been read back, up to j bytes
   record Upto (f : List Piece → List Piece) (z : List Item) (n m l j : ℕ) (t : List ℕ) : Type 0 where
@@ -90,42 +92,39 @@ module _ (q : Gathered) (T k : ℕ) where
     back : RestFits f z (so-far n m l j) q t
 
   -- a number that is added is the next byte
-  cell-back : (c : Slot) → Adds c → (n m l j e : ℕ) {z : List Item} {t : List ℕ} → j + 1 ≡ e →
-      Fits (num c ∷ z) (so-far n m l j) none t q → Upto (chars (spelling (canMinus c) (byteAt (q .body) j))) z n m l e t
+  cell-back : (c : Bool) (n m l j e : ℕ) {z : List Item} {t : List ℕ} → j + 1 ≡ e →
+      Fits (num (cellOf c) ∷ z) (so-far n m l j) none t q → Upto (chars (spelling c (byteAt (q .body) j))) z n m l e t
   unfolding put
-  cell-back c h n m l j e {z} {t} d f = let a = num-rest f in go (a .value) (rw h at (a .rest))
-    where
-      go : (v : ℕ) → RestFits (chars (spelling (canMinus c) v)) z (put cell v (so-far n m l j)) q t →
-          Upto (chars (spelling (canMinus c) (byteAt (q .body) j))) z n m l e t
-      go v a =
-          let i = kept since-keeps (a .fits) in
-          let b = next-byte (q .body) (i .0) j v (i .1) in
-          record { inside = omega (arith, b .0); back = rw (b .1, seen-put (q .body) T k n m l j (b .0), d) at a }
+  cell-back c n m l j e d f =
+      let a = cell-rest c f in
+      let i = kept since-keeps (a .rest .fits) in
+      let b = next-byte (q .body) (i .0) j (a .value) (i .1) in
+      record { inside = omega (arith, b .0); back = rw (b .1, seen-put (q .body) byte k n m l j (b .0), d) at (a .rest) }
 
   -- a label's numbers are the next g bytes
-  numbers-back : (c : Slot) → Adds c → (g i n m l j e : ℕ) {z : List Item} {t : List ℕ} →
-      j + g ≡ e → j ≤ length (q .body) → Fits (numbers c g i z) (so-far n m l j) none t q →
-      Upto (numbersText (spelling (canMinus c)) g i (q .body) j) z n m l e t
+  numbers-back : (shape : Shape) (g i n m l j e : ℕ) {z : List Item} {t : List ℕ} →
+      j + g ≡ e → j ≤ length (q .body) → Fits (numbers shape g i z) (so-far n m l j) none t q →
+      Upto (numbersText shape g i (q .body) j) z n m l e t
   unfolding numbersText
-  numbers-back c h zero i n m l j e {t} d w f =
+  numbers-back shape zero i n m l j e {t} d w f =
       let z : e ≡ j = omega arith in
       rw z (record { inside = w; back = record { rest = t; fits = f; spaced = λ p s. s } })
-  numbers-back c h (suc g) i n m l j e d w f =
-      let a = bytes-rest (joint i) f in
-      let b = cell-back c h n m l j (j + 1) refl (a .fits) in
-      let o = numbers-back c h g (i + 1) n m l (j + 1) e (omega arith) (b .inside) (b .back .fits) in
+  numbers-back shape (suc g) i n m l j e d w f =
+      let a = bytes-rest (joint shape i) f in
+      let b = cell-back (negative shape i) n m l j (j + 1) refl (a .fits) in
+      let o = numbers-back shape g (i + 1) n m l (j + 1) e (omega arith) (b .inside) (b .back .fits) in
       record { inside = o .inside; back = a ▸ b .back ▸ o .back }
 
   -- a label
-  label-back : (c : Slot) → Adds c → (g n m l j e : ℕ) {t : List ℕ} →
-      j + g ≡ e → j ≤ length (q .body) → Fits (label c g) (so-far n m l j) none t q →
-      Upto (labelText (spelling (canMinus c)) g (q .body) j) lines n m l e t
+  label-back : (shape : Shape) (g n m l j e : ℕ) {t : List ℕ} →
+      j + g ≡ e → j ≤ length (q .body) → Fits (label shape g) (so-far n m l j) none t q →
+      Upto (labelText shape g (q .body) j) lines n m l e t
   unfolding labelText
-  label-back c h g n m l j e d w f =
+  label-back shape g n m l j e d w f =
       let a₁ = after-rest tight (text "label") f in
       let a₂ = after-rest tight (text "=") (a₁ .fits) in
       let a₃ = after-rest tight (text "\"") (a₂ .fits) in
-      let o = numbers-back c h g 0 n m l j e d w (a₃ .fits) in
+      let o = numbers-back shape g 0 n m l j e d w (a₃ .fits) in
       let a₄ = byte-rest 34 (o .back .fits) in
       let a₅ = after-rest tight (text "]") (a₄ .fits) in
       let a₆ = after-rest tight (text ";") (a₅ .fits) in
@@ -135,30 +134,30 @@ module _ (q : Gathered) (T k : ℕ) where
   data Line (n m l j : ℕ) (t : List ℕ) : Type 0 where
     end-line : q ≡ so-far n m l j → Spaced endText t → Line n m l j t
     state-line : m ≡ 0 → Upto (stateText (q .body) n) lines (n + 1) 0 n (2 * (n + 1)) t → Line n m l j t
-    rule-line : Upto (ruleText T (q .body) j) lines n (m + 1) (byteAt (q .body) j) (j + ruleBytes T) t → Line n m l j t
+    rule-line : Upto (ruleText byte (q .body) j) lines n (m + 1) (byteAt (q .body) j) (j + ruleBytes byte) t → Line n m l j t
 
   -- a rule's line
   rule-back : (n m j : ℕ) {t : List ℕ} →
-      RestFits (named-by (byteAt (q .body) j) (text "-")) (ruleLine T) (so-far n (m + 1) (byteAt (q .body) j) (j + 1)) q t →
-      Upto (ruleText T (q .body) j) lines n (m + 1) (byteAt (q .body) j) (j + ruleBytes T) t
+      RestFits (named-by (byteAt (q .body) j) (text "-")) (ruleLine byte) (so-far n (m + 1) (byteAt (q .body) j) (j + 1)) q t →
+      Upto (ruleText byte (q .body) j) lines n (m + 1) (byteAt (q .body) j) (j + ruleBytes byte) t
   unfolding put canMinus ruleText
   rule-back n m j a =
       let b = byteAt (q .body) j in
       let a₁ = byte-rest 62 (a .fits) in
       let a₂ = after-rest aBlank (text "s") (a₁ .fits) in
-      let c = cell-back cell (λ v r. refl) n (m + 1) b (j + 1) (j + endBytes) (omega arith) (a₂ .fits) in
+      let c = cell-back false n (m + 1) b (j + 1) (j + endBytes) (omega arith) (a₂ .fits) in
       let a₃ = after-rest aBlank (text "[") (c .back .fits) in
-      let o = label-back coefficient (λ v r. refl) (typeBytes * T) n (m + 1) b (j + endBytes) (j + ruleBytes T) (omega arith) (c .inside) (a₃ .fits) in
+      let o = label-back (ruleShape byte) (weightBytes byte) n (m + 1) b (j + endBytes) (j + ruleBytes byte) (omega arith) (c .inside) (a₃ .fits) in
       record { inside = o .inside; back = a ▸ a₁ ▸ a₂ ▸ c .back ▸ a₃ ▸ o .back }
 
   -- a rule's first byte is its line's name
-  rule-named : (n m v j : ℕ) {t : List ℕ} → RestFits (named-by v (text "-")) (ruleLine T) (newRule (so-far n m v j)) q t →
-      RestFits (named-by (byteAt (q .body) j) (text "-")) (ruleLine T) (so-far n (m + 1) (byteAt (q .body) j) (j + 1)) q t
+  rule-named : (n m v j : ℕ) {t : List ℕ} → RestFits (named-by v (text "-")) (ruleLine byte) (newRule (so-far n m v j)) q t →
+      RestFits (named-by (byteAt (q .body) j) (text "-")) (ruleLine byte) (so-far n (m + 1) (byteAt (q .body) j) (j + 1)) q t
   unfolding newRule
   rule-named n m v j a =
       let i = kept since-keeps (a .fits) in
       let h = next-byte (q .body) (i .0) j v (i .1) in
-      rw (h .1, seen-rule (q .body) T k n m j (h .0)) at a
+      rw (h .1, seen-rule (q .body) byte k n m j (h .0)) at a
 
   -- a state's line
   state-back : (n m v j : ℕ) {t : List ℕ} → v ≡ n → m ≡ 0 → j ≡ stateBytes * n → j ≤ length (q .body) →
@@ -166,7 +165,7 @@ module _ (q : Gathered) (T k : ℕ) where
       Upto (stateText (q .body) n) lines (n + 1) 0 n (2 * (n + 1)) t
   unfolding canMinus stateText put
   state-back n m v j {t} ev em ej w a =
-      let o = label-back cell (λ v r. refl) 2 (n + 1) m v j (2 * (n + 1)) (omega arith) w (a .fits) in
+      let o = label-back stateShape stateBytes (n + 1) m v j (2 * (n + 1)) (omega arith) w (a .fits) in
       record { inside = o .inside; back = rw (ev, em, ej) at (a ▸ o .back) }
 
   -- what stands where a line begins
@@ -191,11 +190,11 @@ module _ (q : Gathered) (T k : ℕ) where
           let b = a ▸ e .rest in
           from-kind (e .value) b (kind-of (so-far n m (e .value) j) q (b .rest) (b .fits))
 
-  -- T and k are those of q, and the records are whole
+  -- the types byte and k are those of q, and the records are whole
   record Ended : Type 0 where
-    same-types : q .types ≡ T
+    same-types : q .types ≡ byte
     same-factor : q .factor ≡ k
-    whole : length (q .body) ≡ recordsBytes (q .states) (q .rules) T
+    whole : length (q .body) ≡ recordsBytes (q .states) (q .rules) byte
 
   -- all lines that are left, for x states and y rules
   record Left (n m : ℕ) (t : List ℕ) : Type 0 where
@@ -205,10 +204,10 @@ module _ (q : Gathered) (T k : ℕ) where
     all-rules : m + y ≡ q .rules
     states-first : (m ≡ 0 → ⊥) → x ≡ 0
     ended : Ended
-    spaced : Spaced (statesText x (q .body) n (rulesText y T (q .body) (recordsBytes (q .states) m T) endText)) t
+    spaced : Spaced (statesText x (q .body) n (rulesText y byte (q .body) (recordsBytes (q .states) m byte) endText)) t
 
   -- no line is left
-  at-end : (n m l j : ℕ) {t : List ℕ} → j ≡ recordsBytes n m T → j ≤ length (q .body) → q ≡ so-far n m l j → Spaced endText t → Left n m t
+  at-end : (n m l j : ℕ) {t : List ℕ} → j ≡ recordsBytes n m byte → j ≤ length (q .body) → q ≡ so-far n m l j → Spaced endText t → Left n m t
   unfolding statesText rulesText
   at-end n m l j d i e s =
       let es = ap (λ (r : Gathered). r .states) e in
@@ -242,15 +241,15 @@ module _ (q : Gathered) (T k : ℕ) where
       }
 
   -- a rule's line, then the rest
-  at-rule : (n m j : ℕ) {t u : List ℕ} → j ≡ recordsBytes n m T → ((p : List Piece) → Spaced p u → Spaced (ruleText T (q .body) j p) t) →
+  at-rule : (n m j : ℕ) {t u : List ℕ} → j ≡ recordsBytes n m byte → ((p : List Piece) → Spaced p u → Spaced (ruleText byte (q .body) j p) t) →
       Left n (m + 1) u → Left n m t
   unfolding statesText rulesText
   at-rule n m j d a o =
       let ox = o .states-first (λ h. omega arith) in
       let es : n ≡ q .states = omega (arith, o .all-states) in
-      let ej : j ≡ recordsBytes (q .states) m T = rw (← es) d in
-      let ek : recordsBytes (q .states) (m + 1) T ≡ recordsBytes (q .states) m T + ruleBytes T =
-      omega (arith, add-mul m 1 (ruleBytes T), one-mul (ruleBytes T)) in
+      let ej : j ≡ recordsBytes (q .states) m byte = rw (← es) d in
+      let ek : recordsBytes (q .states) (m + 1) byte ≡ recordsBytes (q .states) m byte + ruleBytes byte =
+      omega (arith, add-mul m 1 (ruleBytes byte), one-mul (ruleBytes byte)) in
       record {
         x = 0;
         y = suc (o .y);
@@ -262,13 +261,13 @@ module _ (q : Gathered) (T k : ℕ) where
       }
 
   -- f is more than the number of lines that are left
-  lines-back : (f n m l j : ℕ) (t : List ℕ) → q .states + q .rules < f + (n + m) → j ≡ recordsBytes n m T → j ≤ length (q .body) →
+  lines-back : (f n m l j : ℕ) (t : List ℕ) → q .states + q .rules < f + (n + m) → j ≡ recordsBytes n m byte → j ≤ length (q .body) →
       Fits lines (so-far n m l j) none t q → Left n m t
   lines-back zero n m l j t w d i g = let h = kept since-keeps g .2 in absurd (omega arith)
   lines-back (suc f) n m l j t w d i g = go (line-back n m l j t (λ e. d ∙ rw (e, zero-mul, add-zero)) i g) (lines-back f)
     where
       go : Line n m l j t →
-          ((n m l j : ℕ) (t : List ℕ) → q .states + q .rules < f + (n + m) → j ≡ recordsBytes n m T → j ≤ length (q .body) →
+          ((n m l j : ℕ) (t : List ℕ) → q .states + q .rules < f + (n + m) → j ≡ recordsBytes n m byte → j ≤ length (q .body) →
           Fits lines (so-far n m l j) none t q → Left n m t) → Left n m t
       go (end-line e s) ih = at-end n m l j d i e s
       go (state-line e a) ih =
@@ -276,12 +275,12 @@ module _ (q : Gathered) (T k : ℕ) where
           (ih (n + 1) 0 n (2 * (n + 1)) (a .back .rest) (omega arith) (rw (zero-mul, add-zero)) (a .inside) (a .back .fits))
       go (rule-line a) ih =
           at-rule n m j d (a .back .spaced)
-          (ih n (m + 1) (byteAt (q .body) j) (j + ruleBytes T) (a .back .rest) (omega arith)
-          (omega (arith, add-mul m 1 (ruleBytes T), one-mul (ruleBytes T))) (a .inside) (a .back .fits))
+          (ih n (m + 1) (byteAt (q .body) j) (j + ruleBytes byte) (a .back .rest) (omega arith)
+          (omega (arith, add-mul m 1 (ruleBytes byte), one-mul (ruleBytes byte))) (a .inside) (a .back .fits))
 
--- the first line gives T and k
+-- the first line gives the types byte and k
 head-back : (q : Gathered) (t : List ℕ) → Draws t q →
-    (T : ℕ) × (k : ℕ) × RestFits (headText T k) lines (so-far q T k 0 0 0 0) q t
+    (byte : ℕ) × (k : ℕ) × RestFits (headText byte k) lines (so-far q byte k 0 0 0 0) q t
 unfolding headText canMinus put
 head-back q t f =
     let a₁ = after-rest tight (text "digraph") f in
@@ -301,13 +300,13 @@ head-back q t f =
     (b .value, c .value, a₁ ▸ a₂ ▸ a₃ ▸ a₄ ▸ a₅ ▸ a₆ ▸ a₇ ▸ b .rest ▸ a₈ ▸ a₉ ▸ a₁₀ ▸ a₁₁ ▸ c .rest ▸ a₁₂)
 
 -- the first line and all that are left
-from-left : (q : Gathered) (T k : ℕ) {t u : List ℕ} → Ranged q → ((p : List Piece) → Spaced p u → Spaced (headText T k p) t) → Left q T k 0 0 u →
+from-left : (q : Gathered) (byte k : ℕ) {t u : List ℕ} → Ranged q → ((p : List Piece) → Spaced p u → Spaced (headText byte k p) t) → Left q byte k 0 0 u →
     Tokens t (q .types) (q .factor) (q .states) (q .rules) (q .body)
 unfolding tableText
-from-left q T k h a o =
+from-left q byte k h a o =
     let ex = sym (zero-add (o .x)) ∙ o .all-states in
     let ey = sym (zero-add (o .y)) ∙ o .all-rules in
-    let z : recordsBytes (q .states) 0 T ≡ stateBytes * q .states = rw (zero-mul, add-zero) in
+    let z : recordsBytes (q .states) 0 byte ≡ stateBytes * q .states = rw (zero-mul, add-zero) in
     record {
       few-types = h .0;
       few-factor = h .1;
@@ -328,8 +327,8 @@ draws-tokens t r f =
     nothing-ranged = (omega arith, omega arith, omega arith, omega arith, λ x. omega arith)
 
 -- and every text with the tokens of a table draws it
-pub tokens-read : (t : List ℕ) (T k n m : ℕ) (s : List ℕ) → Tokens t T k n m s →
-    (l : ℕ) × (reading t ≡ drawn (record { types = T; factor = k; states = n; rules = m; last = l; body = s }))
-tokens-read t T k n m s h =
-    let e = table-read T k n m s (h .few-types) (h .few-factor) (h .few-states) (h .all-bytes) (omega (arith, h .whole)) in
+pub tokens-read : (t : List ℕ) (byte k n m : ℕ) (s : List ℕ) → Tokens t byte k n m s →
+    (l : ℕ) × (reading t ≡ drawn (record { types = byte; factor = k; states = n; rules = m; last = l; body = s }))
+tokens-read t byte k n m s h =
+    let e = table-read byte k n m s (h .few-types) (h .few-factor) (h .few-states) (h .all-bytes) (omega (arith, h .whole)) in
     (e .0, rw (← h .whole, take-length) at (e .1 t (h .spaced)))

@@ -8,14 +8,14 @@ use Rattle.fault.specs.Bytes.{byteAt}
 use Rattle.table.specs.Table.{recordsBytes}
 use Rattle.dot.specs.Text.{Spaced, tableText}
 
--- t has the tokens of a table of T types, factor k, n states and m rules with the records s, all numbers in range, and any blanks between them
-pub record Tokens (t : List ℕ) (T k n m : ℕ) (s : List ℕ) : Type 0 where
-  pub few-types : T ≤ 255
+-- t has the tokens of a table with a types byte, factor k, n states and m rules with the records s, all numbers in range, and any blanks between them
+pub record Tokens (t : List ℕ) (byte k n m : ℕ) (s : List ℕ) : Type 0 where
+  pub few-types : byte ≤ 255
   pub few-factor : k ≤ 255
   pub few-states : n ≤ 256
   pub all-bytes : (x : ℕ) → byteAt s x < 256
-  pub whole : length s ≡ recordsBytes n m T
-  pub spaced : Spaced (tableText T k n m s) t
+  pub whole : length s ≡ recordsBytes n m byte
+  pub spaced : Spaced (tableText byte k n m s) t
 
 pub record Drawing (t : List ℕ) : Type 0 where
   pub types : ℕ

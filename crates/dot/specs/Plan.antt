@@ -1,14 +1,16 @@
 -- What may stand in a drawing (Q-1, "exactly what we write", and blanks "between tokens"), as plans: lists of items, each of which says what
 -- text may stand there.
-use Prim.Native.Nat.{ℕ, zero, suc, _+_, _*_}
+use Prim.Native.Nat.{ℕ, zero, suc, _+_}
 use mathlib.Core.List.{List, [], _∷_}
-use mathlib.Core.Bool.{cond}
+use mathlib.Core.Bool.{Bool, true, false, cond}
 use lib.Dec.{eqb}
-use Rattle.table.specs.Table.{typeBytes, stateBytes}
+use Rattle.layout.specs.Layout.{weightBytes}
+use Rattle.table.specs.Table.{stateBytes}
 use Rattle.decimal.specs.Numbers.{text}
-use Rattle.dot.specs.Text.{joint}
+use Rattle.dot.specs.declared.Shape.{Shape}
+use Rattle.dot.specs.Text.{stateShape, ruleShape, joint, negative}
 
--- which number: T, k, the name at a line's start, another that the table has, or a coefficient
+-- which number: the types byte, k, the name at a line's start, another that the table has, or a coefficient
 pub data Slot : Type 0 where
   types factor name cell coefficient : Slot
 
@@ -47,22 +49,27 @@ header = plan (text "~digraph_~t~{~T~=~") (num types ∷ plan (text "~;~k~=~") (
 abbrev pub named : List Item
 named = num name ∷ gap ∷ one kind ∷ []
 
+-- a number of a label, by whether it may be below 0
+abbrev pub cellOf : Bool → Slot
+cellOf true = coefficient
+cellOf false = cell
+
 -- the numbers j .. j+g-1 of a label
-abbrev pub numbers : Slot → ℕ → ℕ → List Item → List Item
-numbers s zero j k = k
-numbers s (suc g) j k = bytes (joint j) (num s ∷ numbers s g (j + 1) k)
+abbrev pub numbers : Shape → ℕ → ℕ → List Item → List Item
+numbers shape zero j k = k
+numbers shape (suc g) j k = bytes (joint shape j) (num (cellOf (negative shape j)) ∷ numbers shape g (j + 1) k)
 
 -- after `[`
-abbrev pub label : Slot → ℕ → List Item
-label s g = plan (text "~label~=~\"") (numbers s g 0 (plan (text "\"~]~;") lines))
+abbrev pub label : Shape → ℕ → List Item
+label shape g = plan (text "~label~=~\"") (numbers shape g 0 (plan (text "\"~]~;") lines))
 
 -- after `name [`
 abbrev pub stateLine : List Item
-stateLine = label cell stateBytes
+stateLine = label stateShape stateBytes
 
--- after `name -`
+-- after `name -`, by the types byte
 abbrev pub ruleLine : ℕ → List Item
-ruleLine T = plan (text ">~s") (num cell ∷ plan (text "~[") (label coefficient (typeBytes * T)))
+ruleLine b = plan (text ">~s") (num cell ∷ plan (text "~[") (label (ruleShape b) (weightBytes b)))
 
 -- after `}`
 abbrev pub ending : List Item

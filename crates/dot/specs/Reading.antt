@@ -44,7 +44,7 @@ abbrev pub byteOf : Bool → ℕ → ℕ
 byteOf false v = v
 byteOf true v = 256 - v
 
--- ---- what has been read: T, k, how many states and rules, the last name's number, and the bytes of the records
+-- ---- what has been read: the types byte, k, how many states and rules, the last name's number, and the bytes of the records
 pub record Gathered : Type 0 where
   pub types : ℕ
   pub factor : ℕ

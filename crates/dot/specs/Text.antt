@@ -1,5 +1,6 @@
--- The drawing of a table (Q-1, "`digraph t {`, a line with T and k, one for each state .., one for each rule .., `}`"): its tokens, and
--- between them what the writer puts there or any blanks. That a text may also leave those out is a reading of ours (docs/DECISIONS.md).
+-- The drawing of a table (Q-1, "`digraph t {`, a line with T and k, one for each state .., one for each rule .., `}`"; Q-7, "Q-1's drawings
+-- carry e"): its tokens, and between them what the writer puts there or any blanks. That `T=` shows the types byte, and that a text may leave
+-- those blanks out, are readings of ours (docs/DECISIONS.md).
 use Prim.Native.Nat.{ℕ, zero, suc, _+_, _*_, _%_}
 use mathlib.Core.Path.{_≡_}
 use mathlib.Core.Bool.{Bool, true, _||_}
@@ -7,8 +8,11 @@ use mathlib.Core.List.{List, [], _∷_, _++_}
 use lib.Dec.{eqb}
 use Rattle.fault.specs.Bytes.{byteAt}
 use Rattle.fault.specs.Fault.{_if_else_}
-use Rattle.table.specs.Table.{statesOf, rulesOf, typesOf, factorOf, typeBytes, ruleBytes, stateBytes, endBytes}
-use Rattle.decimal.specs.Numbers.{text, decimal, signed}
+use Rattle.fault.specs.Tests.{_below_}
+use Rattle.layout.specs.Layout.{typeBytes, weightBytes, ruleBytes, endBytes}
+use Rattle.table.specs.Table.{statesOf, rulesOf, typesByte, factorOf, stateBytes}
+use Rattle.decimal.specs.Numbers.{text, decimal, spelling}
+use Rattle.dot.specs.declared.Shape.{Shape}
 
 -- ---- pieces
 -- space, tab, line feed, carriage return
@@ -54,72 +58,88 @@ aBlank = 32 ∷ []
 abbrev pub newLine : List ℕ
 newLine = 10 ∷ []
 
+-- ---- how a label is laid out, in groups of numbers
+-- a state's (Q-1, "flags and sent mask as label"): none is below 0
+abbrev pub stateShape : Shape
+stateShape = record { group = stateBytes; signed = 0 }
+
+-- a rule's (Q-1, "its a, b, d for each type", which may be below 0; Q-7, "a fourth byte e, 1 to 8", which may not)
+abbrev pub ruleShape : ℕ → Shape
+ruleShape byte = record { group = typeBytes byte; signed = 3 }
+
+-- before the number j, at place i of its group: nothing, or a blank; a comma too where a group begins
+unfoldable pub jointAt : ℕ → ℕ → List ℕ
+jointAt j i = [] if eqb j 0 else text ", " if eqb i 0 else text " "
+
+abbrev pub joint : Shape → ℕ → List ℕ
+joint shape j = jointAt j (j % shape .group)
+
+-- may the number j be below 0?
+abbrev pub negative : Shape → ℕ → Bool
+negative shape j = (j % shape .group) below shape .signed
+
 -- ---- lines
 -- digraph t {↵T=1; k=3;
 unfoldable pub headText : ℕ → ℕ → List Piece → List Piece
-headText T k p =
+headText byte k p =
     after tight (text "digraph")
     (must ∷ after tight (text "t")
     (after aBlank (text "{")
     (after newLine (text "T")
     (after tight (text "=")
-    (after tight (decimal T)
+    (after tight (decimal byte)
     (after tight (text ";")
     (after aBlank (text "k")
     (after tight (text "=")
     (after tight (decimal k)
     (after tight (text ";") p))))))))))
 
--- before the number j of a label: nothing, or a blank; a comma too where a type begins
-unfoldable pub joint : ℕ → List ℕ
-joint j = [] if eqb j 0 else text ", " if eqb (j % typeBytes) 0 else text " "
-
 -- the numbers j .. j+g-1 of a label, which are the bytes of s from `at` on
-unfoldable pub numbersText : (ℕ → List ℕ) → ℕ → ℕ → List ℕ → ℕ → List Piece → List Piece
-numbersText spell zero j s at p = p
-numbersText spell (suc g) j s at p =
-    chars (joint j) (chars (spell (byteAt s at)) (numbersText spell g (j + 1) s (at + 1) p))
+unfoldable pub numbersText : Shape → ℕ → ℕ → List ℕ → ℕ → List Piece → List Piece
+numbersText shape zero j s at p = p
+numbersText shape (suc g) j s at p =
+    chars (joint shape j) (chars (spelling (negative shape j) (byteAt s at)) (numbersText shape g (j + 1) s (at + 1) p))
 
 --  [label="1 0"];
-unfoldable pub labelText : (ℕ → List ℕ) → ℕ → List ℕ → ℕ → List Piece → List Piece
-labelText spell g s at p =
+unfoldable pub labelText : Shape → ℕ → List ℕ → ℕ → List Piece → List Piece
+labelText shape g s at p =
     after tight (text "label")
     (after tight (text "=")
     (after tight (text "\"")
-    (numbersText spell g 0 s at (char 34 ∷
+    (numbersText shape g 0 s at (char 34 ∷
     after tight (text "]")
     (after tight (text ";") p)))))
 
 -- ↵s0 [label="1 0"];
 unfoldable pub stateText : List ℕ → ℕ → List Piece → List Piece
-stateText s i p = after newLine (text "s") (chars (decimal i) (after aBlank (text "[") (labelText decimal stateBytes s (stateBytes * i) p)))
+stateText s i p = after newLine (text "s") (chars (decimal i) (after aBlank (text "[") (labelText stateShape stateBytes s (stateBytes * i) p)))
 
--- ↵s0 -> s2 [label="0 1 1"];
+-- ↵s0 -> s2 [label="0 1 1"]; or, in the second edition, ↵s0 -> s2 [label="0 1 1 2"];
 unfoldable pub ruleText : ℕ → List ℕ → ℕ → List Piece → List Piece
-ruleText T s at p =
+ruleText byte s at p =
     after newLine (text "s")
     (chars (decimal (byteAt s at))
     (after aBlank (text "->")
     (after aBlank (text "s")
     (chars (decimal (byteAt s (at + 1)))
-    (after aBlank (text "[") (labelText signed (typeBytes * T) s (at + endBytes) p))))))
+    (after aBlank (text "[") (labelText (ruleShape byte) (weightBytes byte) s (at + endBytes) p))))))
 
 unfoldable pub statesText : ℕ → List ℕ → ℕ → List Piece → List Piece
 statesText zero s i p = p
 statesText (suc x) s i p = stateText s i (statesText x s (i + 1) p)
 
 unfoldable pub rulesText : ℕ → ℕ → List ℕ → ℕ → List Piece → List Piece
-rulesText zero T s at p = p
-rulesText (suc x) T s at p = ruleText T s at (rulesText x T s (at + ruleBytes T) p)
+rulesText zero byte s at p = p
+rulesText (suc x) byte s at p = ruleText byte s at (rulesText x byte s (at + ruleBytes byte) p)
 
 -- ↵}↵
 abbrev pub endText : List Piece
 endText = after newLine (text "}") (space newLine ∷ [])
 
--- n states, m rules, T types and factor k, whose records are the first bytes of s
+-- n states, m rules, a types byte and factor k, whose records are the first bytes of s
 unfoldable pub tableText : ℕ → ℕ → ℕ → ℕ → List ℕ → List Piece
-tableText T k n m s = headText T k (statesText n s 0 (rulesText m T s (stateBytes * n) endText))
+tableText byte k n m s = headText byte k (statesText n s 0 (rulesText m byte s (stateBytes * n) endText))
 
 -- ---- the drawing of a table part
 unfoldable pub drawingOf : List ℕ → List ℕ
-drawingOf s = written (tableText (typesOf s) (factorOf s) (statesOf s) (rulesOf s) s)
+drawingOf s = written (tableText (typesByte s) (factorOf s) (statesOf s) (rulesOf s) s)

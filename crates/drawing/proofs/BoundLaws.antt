@@ -10,6 +10,7 @@ use Rattle.fault.specs.Tests.{_below_, _differs_}
 use Rattle.fault.specs.Fault.{refused, _if_else_}
 use Rattle.fault.proofs.FaultLaws.{Clean, Within, if-keeps, if-passed, check-within}
 use Rattle.fault.proofs.TestLaws.{same}
+use Rattle.layout.specs.Layout.{typesIn}
 use Rattle.table.specs.Table.{mostTable}
 use Rattle.table.specs.Refusals.{countsOutside, tableFault}
 use Rattle.table.proofs.TableLaws.{table-within, table-short}
@@ -49,14 +50,14 @@ module _ (t : List ℕ) where
   unfolding drawnFault
   drawn-within (fault p) e = record { number = omega arith; place = omega (arith, exact-place t p e .within) }
   drawn-within (drawn r) e =
-      check-within (countsOutside (r .states) (r .rules) (r .types) (r .factor)) (omega arith)
+      check-within (countsOutside (r .states) (r .rules) (typesIn (r .types)) (r .factor)) (omega arith)
       (λ _. let W = table-within (tableOf r) in record { number = omega (arith, W .number); place = omega (arith, W .place) })
 
   drawn-short : (o : Outcome) → drawnFault o .number ≡ 0 → length (drawnTable o) ≤ mostTable
   unfolding drawnFault drawnTable
   drawn-short (fault p) z = omega arith
   drawn-short (drawn r) z =
-      let p = if-passed Clean (refused 2) (countsOutside (r .states) (r .rules) (r .types) (r .factor)) (tableFault (tableOf r)) (λ y. omega arith) z in
+      let p = if-passed Clean (refused 2) (countsOutside (r .states) (r .rules) (typesIn (r .types)) (r .factor)) (tableFault (tableOf r)) (λ y. omega arith) z in
       table-short (tableOf r) (sized-table (tableOf r) refl (p .1))
 
   pub undraw-within : (lent : ℕ) → DrawnWithin (64 + length t) mostTable (undrawAnswer t lent)

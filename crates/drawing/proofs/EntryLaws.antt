@@ -14,7 +14,8 @@ use Rattle.fault.specs.Fault.{refused, nothingDone}
 use Rattle.fault.proofs.FaultLaws.{if-yes, if-no}
 use Rattle.pen.specs.Pen.{stored}
 use Rattle.pen.proofs.PenLaws.{stored-more, stored-length, stored-whole, stored-nothing}
-use Rattle.table.specs.Table.{mostRecords, mostTable, ruleBytes, stateBytes}
+use Rattle.layout.specs.Layout.{typesIn, ruleBytes}
+use Rattle.table.specs.Table.{mostRecords, mostTable, stateBytes}
 use Rattle.table.specs.Refusals.{countsOutside, tableFault}
 use Rattle.table.specs.Facts.{CountsFit, Sized}
 use Rattle.table.proofs.TableLaws.{well-formed, counts-by, records-short}
@@ -65,10 +66,10 @@ unfolding drawnFault drawnTable
 undrew-stuck {t} {out} {tab} {g} d s f = undrew (fault (g .place)) (d .fails s) (gave-refused [] out refl (λ z. absurd (let y : _≡_ {A = ℕ} 60 0 = z in omega arith)) f)
 
 -- the counts of what was read are the reader's
-same-counts : {t out : List ℕ} {g : Reader} {o : Gathered → Outcome} (k : Known t g out o) → countsOutside (g .states) (g .rules) (g .types) (g .factor) ≡ countsOutside (k .read .states) (k .read .rules) (k .read .types) (k .read .factor)
+same-counts : {t out : List ℕ} {g : Reader} {o : Gathered → Outcome} (k : Known t g out o) → countsOutside (g .states) (g .rules) (typesIn (g .types)) (g .factor) ≡ countsOutside (k .read .states) (k .read .rules) (typesIn (k .read .types)) (k .read .factor)
 same-counts k = rw (k .states-are, k .rules-are, k .types-are, k .factor-is)
 
-pub undrew-outside : {t out tab : List ℕ} {g : Reader} {a : Answer} {b : Bool} → Finished t g tab → g .stuck ≡ false → b ≡ countsOutside (g .states) (g .rules) (g .types) (g .factor) → b ≡ true →
+pub undrew-outside : {t out tab : List ℕ} {g : Reader} {a : Answer} {b : Bool} → Finished t g tab → g .stuck ≡ false → b ≡ countsOutside (g .states) (g .rules) (typesIn (g .types)) (g .factor) → b ≡ true →
     a ≡ record { refusal = 2; place = 0; count = 0 } → Undrew t out a out
 unfolding drawnFault drawnTable
 undrew-outside {t} {out} {tab} {g} {a} {b} d s eb y f =
@@ -78,28 +79,28 @@ undrew-outside {t} {out} {tab} {g} {a} {b} d s eb y f =
 
 -- ---- its bytes
 -- the records that a reader has made are few bytes
-pub few-records : {t tab : List ℕ} {g : Reader} {b : Bool} → Known t g tab drawn → b ≡ countsOutside (g .states) (g .rules) (g .types) (g .factor) → b ≡ false → g .made ≤ mostRecords
+pub few-records : {t tab : List ℕ} {g : Reader} {b : Bool} → Known t g tab drawn → b ≡ countsOutside (g .states) (g .rules) (typesIn (g .types)) (g .factor) → b ≡ false → g .made ≤ mostRecords
 few-records {g = g} k e h =
-    let c = counts-by (g .states) (g .rules) (g .types) (g .factor) e h in
+    let c = counts-by (g .states) (g .rules) (typesIn (g .types)) (g .factor) e h in
     omega (arith, k .sum, records-short (g .states) (g .rules) (g .types) (c .few-states) (c .few-rules) (c .few-types))
 
-pub trailer-is : {n m T k : ℕ} {a b c d e f g h all rules : ℕ} → CountsFit n m T k → rules ≡ m * ruleBytes T → all ≡ stateBytes * n + rules →
-    a ≡ all % 256 → b ≡ all / 256 → c ≡ rules % 256 → d ≡ rules / 256 → e ≡ n % 256 → f ≡ m % 256 → g ≡ T % 256 → h ≡ k % 256 →
-    a ∷ b ∷ c ∷ d ∷ e ∷ f ∷ g ∷ h ∷ [] ≡ trailerFor n m T k
+pub trailer-is : {n m byte k : ℕ} {a b c d e f g h all l rules : ℕ} → CountsFit n m (typesIn byte) k → byte < 256 → l ≡ ruleBytes byte → rules ≡ m * l → all ≡ stateBytes * n + rules →
+    a ≡ all % 256 → b ≡ all / 256 → c ≡ rules % 256 → d ≡ rules / 256 → e ≡ n % 256 → f ≡ m % 256 → g ≡ byte % 256 → h ≡ k % 256 →
+    a ∷ b ∷ c ∷ d ∷ e ∷ f ∷ g ∷ h ∷ [] ≡ trailerFor n m byte k
 unfolding trailerFor
-trailer-is {n} {m} {T} {k} x er ea p q u v en em eT ek =
+trailer-is {n} {m} {byte} {k} x lb el er ea p q u v en em eb ek =
     let en′ : n % 256 ≡ n = omega (arith, x .few-states) in
     let em′ : m % 256 ≡ m = omega (arith, x .few-rules) in
-    let eT′ : T % 256 ≡ T = omega (arith, x .few-types) in
+    let eb′ : byte % 256 ≡ byte = omega arith in
     let ek′ : k % 256 ≡ k = omega (arith, x .few-factor) in
-    rw (p, q, u, v, en ∙ en′, em ∙ em′, eT ∙ eT′, ek ∙ ek′, ea, er)
+    rw (p, q, u, v, en ∙ en′, em ∙ em′, eb ∙ eb′, ek ∙ ek′, ea, er, el)
 
-trailer-length : (n m T k : ℕ) → length (trailerFor n m T k) ≡ trailerBytes
+trailer-length : (n m byte k : ℕ) → length (trailerFor n m byte k) ≡ trailerBytes
 unfolding trailerFor
-trailer-length n m T k = refl
+trailer-length n m byte k = refl
 
 -- the records and the trailer stand in their room
-pub table-stands : {t tab tab′ : List ℕ} {g : Reader} {b : Bool} (k : Known t g tab drawn) → length tab ≡ mostTable → b ≡ countsOutside (g .states) (g .rules) (g .types) (g .factor) → b ≡ false →
+pub table-stands : {t tab tab′ : List ℕ} {g : Reader} {b : Bool} (k : Known t g tab drawn) → length tab ≡ mostTable → b ≡ countsOutside (g .states) (g .rules) (typesIn (g .types)) (g .factor) → b ≡ false →
     tab′ ≡ stored tab (g .made) (trailerFor (g .states) (g .rules) (g .types) (g .factor)) → take (g .made + trailerBytes) tab′ ≡ tableOf (k .read)
 unfolding tableOf
 table-stands {t} {tab} {tab′} {g} {b} k l eb h e =
@@ -124,7 +125,7 @@ table-stands {t} {tab} {tab′} {g} {b} k l eb h e =
     same = rw (k .states-are, k .rules-are, k .types-are, k .factor-is)
 
 -- where the table ends in it
-pub table-room : {t tab tab′ : List ℕ} {g : Reader} {b : Bool} {l : ℕ} → Known t g tab drawn → length tab ≡ l → l ≡ mostTable → b ≡ countsOutside (g .states) (g .rules) (g .types) (g .factor) → b ≡ false →
+pub table-room : {t tab tab′ : List ℕ} {g : Reader} {b : Bool} {l : ℕ} → Known t g tab drawn → length tab ≡ l → l ≡ mostTable → b ≡ countsOutside (g .states) (g .rules) (typesIn (g .types)) (g .factor) → b ≡ false →
     tab′ ≡ stored tab (g .made) (trailerFor (g .states) (g .rules) (g .types) (g .factor)) → g .made + trailerBytes ≤ length tab′
 table-room {t} {tab} {tab′} {g} k e z eb h f =
     let x = few-records k eb h in
@@ -132,7 +133,7 @@ table-room {t} {tab} {tab′} {g} k e z eb h f =
     omega (arith, l, e, z, x)
 
 pub undrew-table : {t out tab tab′ u : List ℕ} {g : Reader} {a : Answer} {b : Bool} {n : ℕ} → Finished t g tab → g .stuck ≡ false → length tab ≡ mostTable →
-    b ≡ countsOutside (g .states) (g .rules) (g .types) (g .factor) → b ≡ false →
+    b ≡ countsOutside (g .states) (g .rules) (typesIn (g .types)) (g .factor) → b ≡ false →
     tab′ ≡ stored tab (g .made) (trailerFor (g .states) (g .rules) (g .types) (g .factor)) → n ≡ g .made + trailerBytes →
     Gave (tableFault (take n tab′)) (take n tab′) out a u → Undrew t out a u
 unfolding drawnFault drawnTable

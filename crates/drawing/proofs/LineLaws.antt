@@ -2,7 +2,7 @@
 use mathlib.Core.Path.{_≡_, refl, sym, ap, _∙_}
 use mathlib.Core.Bool.{Bool, true, false, cond, not, _&&_, _||_, true≢false}
 use mathlib.Core.List.{List, [], _∷_, _++_, append-assoc}
-use Prim.Native.Nat.{ℕ, _+_, _-_, _*_, _≤_, _<_}
+use Prim.Native.Nat.{ℕ, _+_, _-_, _≤_, _<_}
 use native.Mathlib.Omega.{arith}
 use native.Mathlib.Nat.{add-mul, one-mul}
 use lib.Dec.{eqb}
@@ -12,18 +12,21 @@ use Rattle.senders.proofs.TallyLaws.{and-both as both}
 use Rattle.fault.specs.Bytes.{byteAt}
 use Rattle.fault.specs.Fault.{_if_else_}
 use Rattle.fault.proofs.TestLaws.{or-none}
-use Rattle.table.specs.Table.{typeBytes, ruleBytes, stateBytes, endBytes}
+use Rattle.layout.specs.Layout.{weightBytes, ruleBytes, endBytes}
+use Rattle.table.specs.Table.{stateBytes}
 use Rattle.pen.specs.Pen.{stored}
 use Rattle.pen.proofs.PenLaws.{stored-more}
 use Rattle.decimal.specs.Numbers.{text}
 use Rattle.decimal.specs.Digits.{peeked}
 use Rattle.decimal.proofs.DigitLaws.{seen, seen-byte}
+use Rattle.dot.specs.declared.Shape.{Shape}
+use Rattle.dot.specs.Text.{stateShape, ruleShape}
 use Rattle.dot.specs.Plan.{Item, gap, num, one, line, kind, types, factor, name, cell, plan, lines, header, named, label, stateLine, ruleLine, ending}
 use Rattle.dot.specs.Reading.{canMinus, none, Gathered, nothingRead, put, newState, newRule, nextState, ByteStep, stuck, at, turned, to, halt, take1, next, ended, Outcome, drawn, fault, run, reading}
 use Rattle.dot.proofs.Digits.{shifted-none}
 use Rattle.drawing.specs.declared.Cursor.{Cursor}
 use Rattle.drawing.specs.declared.Reader.{Reader}
-use Rattle.drawing.specs.Cursor.{from, reached, more, cellOf, labelThen, Skipped, Followed, Counted, Labelled}
+use Rattle.drawing.specs.Cursor.{from, reached, more, labelThen, Skipped, Followed, Counted, Labelled}
 use Rattle.drawing.specs.Lines.{Known, onLines, onName, onState, onRule, onEnd, Arrow, Stood, Headed, Closed, Finished}
 use Rattle.drawing.proofs.FromLaws.{from-byte, from-stuck, from-over, from-not, from-same, from-end}
 use Rattle.drawing.proofs.PlanLaws.{at-free, at-stuck, stands}
@@ -53,11 +56,11 @@ reading-from : (t : List ℕ) → reading t ≡ from t 0 header nothingRead none
 unfolding reading from
 reading-from t = shifted-none (run t header nothingRead none)
 
-pub header-read : {t : List ℕ} {z a b c T k : Cursor} → z ≡ stands 0 → Followed t z (text "~digraph_~t~{~T~=~") a → Counted t a false T →
-    Followed t T (text "~;~k~=~") b → Counted t b false k → Followed t k (text "~;") c →
-    Headed t (record { place = c .place; stuck = c .stuck; ended = false; types = T .value; factor = k .value; states = 0; rules = 0; made = 0 })
+pub header-read : {t : List ℕ} {z a b c byte k : Cursor} → z ≡ stands 0 → Followed t z (text "~digraph_~t~{~T~=~") a → Counted t a false byte →
+    Followed t byte (text "~;~k~=~") b → Counted t b false k → Followed t k (text "~;") c →
+    Headed t (record { place = c .place; stuck = c .stuck; ended = false; types = byte .value; factor = k .value; states = 0; rules = 0; made = 0 })
 unfolding canMinus ended put onLines _if_else_ stored
-header-read {t} {z} {a} {b} {c} {T} {k} ez f x g y h =
+header-read {t} {z} {a} {b} {c} {byte} {k} ez f x g y h =
     record {
       within = h .within;
       fails = λ s. leads ∙ at-stuck t c lines r2 s;
@@ -80,7 +83,7 @@ header-read {t} {z} {a} {b} {c} {T} {k} ez f x g y h =
     }
   where
     r1 : Gathered
-    r1 = put types (T .value) nothingRead
+    r1 = put types (byte .value) nothingRead
 
     r2 : Gathered
     r2 = put factor (k .value) r1
@@ -253,12 +256,12 @@ kind-fails {t} {out} {g} i v {x} l k ex h n =
     split false b e f = rw (ne-eqb x 45 n)
 
 -- ---- a state's line
-pub state-read : {t out left : List ℕ} {g : Reader} (i v : ℕ) {z c : Cursor} → g .place + 1 ≤ i → Known t g out (onState t i v) → z ≡ stands i →
-    Labelled t z 2 (labelThen (cellOf false) 2) c (g .made) out left →
+pub state-read : {t out left : List ℕ} {g : Reader} (i v : ℕ) {z c : Cursor} {shape : Shape} → g .place + 1 ≤ i → Known t g out (onState t i v) → z ≡ stands i →
+    shape ≡ stateShape → Labelled t z stateBytes (labelThen shape stateBytes) c (g .made) out left →
     Stood t (g .place)
     (record { place = c .place; stuck = c .stuck; ended = false; types = g .types; factor = g .factor; states = g .states + 1; rules = g .rules; made = g .made + stateBytes }) left
 unfolding onState onLines _if_else_ put newState ended
-state-read {t} {out} {left} {g} i v {z} {c} o k ez l =
+state-read {t} {out} {left} {g} i v {z} {c} {shape} o k ez es l =
     record {
       within = l .within;
       onward = omega (arith, l .onward, ap (λ (z : Cursor). z .place) ez);
@@ -289,7 +292,9 @@ state-read {t} {out} {left} {g} i v {z} {c} o k ez l =
     r = more (l .values) r0
 
     leads : reading t ≡ reached t c lines r
-    leads = k .goes ∙ sym (at-free t (stands i) stateLine r0 refl) ∙ ap (λ (z : Cursor). reached t z stateLine r0) (sym ez) ∙ l .on lines r0 refl
+    leads =
+        k .goes ∙ sym (at-free t (stands i) stateLine r0 refl) ∙ ap (λ (z : Cursor). reached t z stateLine r0) (sym ez) ∙
+        ap (λ (s : Shape). reached t z (labelThen s stateBytes lines) r0) (sym es) ∙ l .on lines r0 refl
 
 -- ---- a rule's line
 pub arrow-read : {t out mid left : List ℕ} {v n m u w : ℕ} {z a d : Cursor} (i : ℕ) → z ≡ stands i → Followed t z (text ">~s") a → Counted t a false d →
@@ -307,13 +312,13 @@ arrow-read {t} {out} {mid} {left} {v} {n} {m} {u} {w} {z} {a} {d} i ez f y eu e1
           f .on (num cell ∷ k) r ∙ y .on cell k r refl e;
     }
 
-pub rule-read : {t out mid left : List ℕ} {g : Reader} {n : ℕ} {b c d : Cursor} (i v : ℕ) → g .place + 1 ≤ i → Known t g out (onRule t i v) →
+pub rule-read : {t out mid left : List ℕ} {g : Reader} {n weights : ℕ} {b c d : Cursor} {shape : Shape} (i v : ℕ) → g .place + 1 ≤ i → Known t g out (onRule t i v) →
     Arrow t i v d (g .made) out mid → Followed t d (text "~[") b → n ≡ g .made + endBytes →
-    Labelled t b (typeBytes * g .types) (labelThen (cellOf true) (typeBytes * g .types)) c n mid left →
+    weights ≡ weightBytes (g .types) → shape ≡ ruleShape (g .types) → Labelled t b weights (labelThen shape weights) c n mid left →
     Stood t (g .place)
-    (record { place = c .place; stuck = c .stuck; ended = false; types = g .types; factor = g .factor; states = g .states; rules = g .rules + 1; made = g .made + endBytes + typeBytes * g .types }) left
+    (record { place = c .place; stuck = c .stuck; ended = false; types = g .types; factor = g .factor; states = g .states; rules = g .rules + 1; made = g .made + endBytes + weights }) left
 unfolding onRule onLines _if_else_ put newRule ended
-rule-read {t} {out} {mid} {left} {g} {n} {b} {c} {d} i v o k y h en l =
+rule-read {t} {out} {mid} {left} {g} {n} {weights} {b} {c} {d} {shape} i v o k y h en ew es l =
     record {
       within = l .within;
       onward = omega (arith, l .onward, h .onward, y .onward);
@@ -327,7 +332,7 @@ rule-read {t} {out} {mid} {left} {g} {n} {b} {c} {d} i v o k y h en l =
             states-are = k .states-are;
             rules-are = rw (k .rules-are);
             made-is = length-append (r1 .body) (l .values) ∙ omega (arith, ends-length, l .count);
-            sum = omega (arith, k .sum, add-mul (g .rules) 1 (ruleBytes (g .types)), one-mul (ruleBytes (g .types)));
+            sum = omega (arith, k .sum, ew, add-mul (g .rules) 1 (ruleBytes (g .types)), one-mul (ruleBytes (g .types)));
             first = k .first;
             kept = keeps;
             few = k .few;
@@ -337,9 +342,6 @@ rule-read {t} {out} {mid} {left} {g} {n} {b} {c} {d} i v o k y h en l =
           };
     }
   where
-    T : ℕ
-    T = k .read .types
-
     r0 : Gathered
     r0 = newRule (put name v (k .read))
 
@@ -350,10 +352,10 @@ rule-read {t} {out} {mid} {left} {g} {n} {b} {c} {d} i v o k y h en l =
     r = more (l .values) r1
 
     tail : List Item
-    tail = label (cellOf true) (typeBytes * T)
+    tail = label (ruleShape (k .read .types)) (weightBytes (k .read .types))
 
-    labels : labelThen (cellOf true) (typeBytes * g .types) lines ≡ tail
-    labels = ap (λ (x : ℕ). labelThen (cellOf true) (typeBytes * x) lines) (sym (k .types-are))
+    labels : labelThen shape weights lines ≡ tail
+    labels = rw (ew, es) (ap (λ (x : ℕ). label (ruleShape x) (weightBytes x)) (sym (k .types-are)))
 
     leads : reading t ≡ reached t c lines r
     leads =

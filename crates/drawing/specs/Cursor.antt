@@ -9,8 +9,9 @@ use Rattle.fault.specs.Fault.{_if_else_}
 use Rattle.decimal.specs.Numbers.{text}
 use Rattle.decimal.specs.Digits.{peeked}
 use Rattle.pen.specs.Pen.{stored}
-use Rattle.dot.specs.Text.{isBlank, joint}
-use Rattle.dot.specs.Plan.{Slot, cell, coefficient, Item, gap, num, plan, bytes, numbers}
+use Rattle.dot.specs.declared.Shape.{Shape}
+use Rattle.dot.specs.Text.{isBlank, jointAt}
+use Rattle.dot.specs.Plan.{Slot, cellOf, Item, gap, num, plan, bytes, numbers}
 use Rattle.dot.specs.Reading.{Num, none, some, begun, canMinus, Gathered, put, ended, Outcome, fault, shifted, run}
 use Rattle.drawing.specs.declared.Cursor.{Cursor}
 
@@ -79,24 +80,19 @@ pub record RestOfDigits (t : List ℕ) (i v : ℕ) (signed neg : Bool) (d : Curs
 abbrev pub more : List ℕ → Gathered → Gathered
 more w r = record { types = r .types; factor = r .factor; states = r .states; rules = r .rules; last = r .last; body = r .body ++ w }
 
--- the slot of a label's numbers
-abbrev pub cellOf : Bool → Slot
-cellOf true = coefficient
-cellOf false = cell
-
 -- a label of g numbers and the end of its line, and then k
-abbrev pub labelThen : Slot → ℕ → List Item → List Item
-labelThen s g k = plan (text "~label~=~\"") (numbers s g 0 (plan (text "\"~]~;") k))
+abbrev pub labelThen : Shape → ℕ → List Item → List Item
+labelThen shape g k = plan (text "~label~=~\"") (numbers shape g 0 (plan (text "\"~]~;") k))
 
--- d stands after number j of a label, whose byte it has
-pub record Numbered (t : List ℕ) (c : Cursor) (j : ℕ) (signed : Bool) (d : Cursor) : Type 0 where
+-- d stands after number j of a label, at place i of its group, whose byte it has
+pub record Numbered (t : List ℕ) (c : Cursor) (j i : ℕ) (signed : Bool) (d : Cursor) : Type 0 where
   pub within : d .place ≤ length t
   pub free : d .stuck ≡ false → c .stuck ≡ false
   pub onward : c .place ≤ d .place
   pub further : d .stuck ≡ false → c .place + 1 ≤ d .place
   pub small : d .value < 256
   pub on : (k : List Item) (r : Gathered) → ended k ≡ false →
-      reached t c (bytes (joint j) (num (cellOf signed) ∷ k)) r ≡ reached t d k (more (d .value ∷ []) r)
+      reached t c (bytes (jointAt j i) (num (cellOf signed) ∷ k)) r ≡ reached t d k (more (d .value ∷ []) r)
 
 -- d stands after a piece of plan that has g numbers, and their bytes are put into `out` from n on
 pub record Labelled (t : List ℕ) (c : Cursor) (g : ℕ) (piece : List Item → List Item) (d : Cursor) (n : ℕ) (out left : List ℕ) : Type 0 where

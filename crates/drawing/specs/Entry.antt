@@ -1,5 +1,5 @@
 -- What `draw` and `undraw` answer and leave, for every table, text and lent bytes (Q-1, "Refusals: 60 .. then 2, 4 to 8 .. then
--- 61" and "The writer gives 1 to 8, then 61").
+-- 61" and "The writer gives 1 to 8, then 61"; Q-7, "Q-1's drawings .. give 9").
 use mathlib.Core.List.{List, [], _∷_, _++_}
 use Prim.Native.Nat.{ℕ, _+_, _*_}
 use lib.ListN.{length, drop}
@@ -9,23 +9,24 @@ use Rattle.fault.specs.Bytes.{twoBytes}
 use Rattle.fault.specs.Tests.{_below_, _differs_}
 use Rattle.fault.specs.Fault.{verdict, refused, nothingDone, _if_else_}
 use Rattle.table.specs.Refusals.{countsOutside, tableFault}
-use Rattle.table.specs.Table.{ruleBytes, recordsBytes}
+use Rattle.layout.specs.Layout.{typesIn, ruleBytes}
+use Rattle.table.specs.Table.{recordsBytes}
 use Rattle.dot.specs.Text.{drawingOf}
 use Rattle.dot.specs.Reading.{Gathered, Outcome, drawn, fault, reading}
 
 -- ---- the table that a text draws
--- distances to the first state and the first rule, states, rules, types, factor
+-- distances to the first state and the first rule, states, rules, types byte, factor
 unfoldable pub trailerFor : ℕ → ℕ → ℕ → ℕ → List ℕ
-trailerFor n m T k = twoBytes (recordsBytes n m T) (twoBytes (m * ruleBytes T) (n ∷ m ∷ T ∷ k ∷ []))
+trailerFor n m byte k = twoBytes (recordsBytes n m byte) (twoBytes (m * ruleBytes byte) (n ∷ m ∷ byte ∷ k ∷ []))
 
 -- its records and the trailer
 unfoldable pub tableOf : Gathered → List ℕ
 tableOf r = r .body ++ trailerFor (r .states) (r .rules) (r .types) (r .factor)
 
--- 60 with the place; then 2; then 4 to 8 as for the table
+-- 60 with the place; then 2; then 4 to 9 as for the table
 unfoldable pub drawnFault : Outcome → Verdict
 drawnFault (fault p) = verdict 60 p
-drawnFault (drawn r) = refused 2 if countsOutside (r .states) (r .rules) (r .types) (r .factor) else tableFault (tableOf r)
+drawnFault (drawn r) = refused 2 if countsOutside (r .states) (r .rules) (typesIn (r .types)) (r .factor) else tableFault (tableOf r)
 
 unfoldable pub drawnTable : Outcome → List ℕ
 drawnTable (fault p) = []

@@ -1,10 +1,11 @@
 // Drawings of a table: written from its bytes, and read back to them.
 ghost use mathlib.Core.Path.{_≡_};
-ghost use Prim.Native.Nat.{_≤_};
+ghost use Prim.Native.Nat.{_≤_, _<_};
 ghost use lib.ListN.{length};
 ghost use Rattle.pen.specs.Pen.{stored};
+ghost use Rattle.layout.specs.Layout.{typesIn};
 ghost use Rattle.table.specs.Table.{mostRecords, mostTable};
-ghost use Rattle.table.specs.Refusals.{tableFault};
+ghost use Rattle.table.specs.Refusals.{countsOutside, tableFault};
 ghost use Rattle.table.specs.Facts.{CountsFit};
 ghost use Rattle.drawing.specs.Entry.{trailerFor, given, left, drawAnswer, drawBytes, undrawAnswer, undrawBytes};
 use fault::Answer;
@@ -19,7 +20,7 @@ pub struct Cursor {
     pub value: usize,
 }
 
-// What has been read up to the end of a line: its counts, and how many bytes of the table's records.
+// What has been read up to the end of a line: its counts, the types byte for that of types, and how many bytes of the table's records.
 pub struct Reader {
     pub place: usize,
     pub stuck: bool,
@@ -68,7 +69,7 @@ fn undraw_in(text: &[u8], table: &mut [u8], out: &mut [u8]) -> Answer
     if g.stuck {
         return fault::answered(60, g.place, 0);
     }
-    if table::counts_outside(g.states, g.rules, g.types, g.factor) {
+    if counts_outside(g) {
         return fault::answered(2, 0, 0);
     }
     close(g, table);
@@ -76,12 +77,21 @@ fn undraw_in(text: &[u8], table: &mut [u8], out: &mut [u8]) -> Answer
     give(&table[..n], out)
 }
 
+// Is one of the four counts none that a table has?
+fn counts_outside(g: Reader) -> bool
+    requires { ⌜ g .types < 256 ⌝ }
+    ensures { λ r. ⌜ r ≡ countsOutside (g .states) (g .rules) (typesIn (g .types)) (g .factor) ⌝ }
+{
+    let types = layout::types_in(g.types);
+    table::counts_outside(g.states, g.rules, types, g.factor)
+}
+
 // The trailer after the records.
 fn close(g: Reader, table: &mut [u8])
-    requires { ⌜ (CountsFit (g .states) (g .rules) (g .types) (g .factor)) × (g .made ≤ mostRecords) ⌝ }
+    requires { ⌜ (CountsFit (g .states) (g .rules) (typesIn (g .types)) (g .factor)) × (g .types < 256) × (g .made ≤ mostRecords) ⌝ }
     ensures { λ r. ⌜ now (table .exit) ≡ stored (now (table .entry)) (g .made) (trailerFor (g .states) (g .rules) (g .types) (g .factor)) ⌝ }
 {
-    let rules = fault::times(g.rules, table::END_BYTES + table::TYPE_BYTES * g.types);
+    let rules = fault::times(g.rules, layout::rule_bytes(g.types));
     let all = table::STATE_BYTES * g.states + rules;
     let trailer = [
         fault::low(all),

@@ -126,7 +126,7 @@ fn state_line(text: &[u8], g: Reader, i: usize, v: usize, out: &mut [u8]) -> Rea
         text,
         pieces::stand(i),
         table::STATE_BYTES,
-        false,
+        dot::of_state(),
         out,
         g.made,
     );
@@ -149,13 +149,14 @@ fn rule_line(text: &[u8], g: Reader, i: usize, v: usize, out: &mut [u8]) -> Read
 {
     let to = ends(text, i, v, out, g.made);
     let b = pieces::follow(text, to, b"~[");
+    let weights = layout::weight_bytes(g.types);
     let c = pieces::label(
         text,
         b,
-        table::TYPE_BYTES * g.types,
-        true,
+        weights,
+        dot::of_rule(g.types),
         out,
-        g.made + table::END_BYTES,
+        g.made + layout::END_BYTES,
     );
     Reader {
         place: c.place,
@@ -165,7 +166,7 @@ fn rule_line(text: &[u8], g: Reader, i: usize, v: usize, out: &mut [u8]) -> Read
         factor: g.factor,
         states: g.states,
         rules: g.rules + 1,
-        made: g.made + table::END_BYTES + table::TYPE_BYTES * g.types,
+        made: g.made + layout::END_BYTES + weights,
     }
 }
 

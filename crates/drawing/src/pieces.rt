@@ -2,18 +2,18 @@
 ghost use mathlib.Core.Path.{_≡_};
 ghost use mathlib.Core.Bool.{true, false, not, _&&_};
 ghost use mathlib.Core.List.{[], _∷_};
-ghost use Prim.Native.Nat.{_+_, _*_, _≤_, _<_};
+ghost use Prim.Native.Nat.{_+_, _≤_, _<_};
 ghost use lib.Dec.{eqb};
 ghost use lib.ListN.{length};
 ghost use Rattle.decimal.specs.Digits.{isDigit};
-ghost use Rattle.table.specs.Table.{typeBytes};
 ghost use Rattle.pen.specs.Pen.{stored, places};
 ghost use Rattle.dot.specs.Text.{isBlank};
 ghost use Rattle.dot.specs.Text as texts;
 ghost use Rattle.dot.specs.Plan as plans;
 ghost use Rattle.dot.specs.Reading.{limit, byteOf};
-ghost use Rattle.drawing.specs.Cursor.{asked, cellOf, Begun, Skipped, Followed, Counted, Digits, RestOfDigits, labelThen, Numbered, Labelled};
+ghost use Rattle.drawing.specs.Cursor.{asked, Begun, Skipped, Followed, Counted, Digits, RestOfDigits, labelThen, Numbered, Labelled};
 use crate::Cursor;
+use dot::Shape;
 
 // At a place, free to go on.
 pub fn stand(place: usize) -> Cursor
@@ -178,48 +178,59 @@ fn byte_of(negative: bool, v: usize) -> usize
 
 // ---- labels
 // A label of some numbers and the end of its line, from after the bracket on; their bytes are put into `out` from n on.
-pub fn label(text: &[u8], c: Cursor, count: usize, signed: bool, out: &mut [u8], n: usize) -> Cursor
-    requires { ⌜ (c .place ≤ length (now text)) × (count ≤ typeBytes * 255) × (n ≤ 9223372036854775810) ⌝ }
-    ensures { λ d. ⌜ Labelled (now (text .entry)) c count (labelThen (cellOf signed) count) d n (now (out .entry)) (now (out .exit)) ⌝ }
+pub fn label(text: &[u8], c: Cursor, count: usize, shape: Shape, out: &mut [u8], n: usize) -> Cursor
+    requires { ⌜ (c .place ≤ length (now text)) × (count ≤ 1020) × (1 ≤ shape .group) × (n ≤ 9223372036854775810) ⌝ }
+    ensures { λ d. ⌜ Labelled (now (text .entry)) c count (labelThen shape count) d n (now (out .entry)) (now (out .exit)) ⌝ }
 {
     let a = follow(text, c, b"~label~=~\"");
-    let b = numbers(text, a, count, signed, out, n);
+    let b = numbers(text, a, count, shape, out, n);
     follow(text, b, b"\"~]~;")
 }
 
 // The numbers of a label.
-fn numbers(text: &[u8], c: Cursor, count: usize, signed: bool, out: &mut [u8], n: usize) -> Cursor
-    requires { ⌜ (c .place ≤ length (now text)) × (count ≤ typeBytes * 255) × (n ≤ 9223372036854775810) ⌝ }
-    ensures { λ d. ⌜ Labelled (now (text .entry)) c count (plans.numbers (cellOf signed) count 0) d n (now (out .entry)) (now (out .exit)) ⌝ }
+fn numbers(text: &[u8], c: Cursor, count: usize, shape: Shape, out: &mut [u8], n: usize) -> Cursor
+    requires { ⌜ (c .place ≤ length (now text)) × (count ≤ 1020) × (1 ≤ shape .group) × (n ≤ 9223372036854775810) ⌝ }
+    ensures { λ d. ⌜ Labelled (now (text .entry)) c count (plans.numbers shape count 0) d n (now (out .entry)) (now (out .exit)) ⌝ }
 {
     let mut d = c;
     let mut j = 0;
+    // The place of number j in its group.
+    let mut i = 0;
     while j < count {
-        d = number_at(text, d, j, signed, out, n + j);
+        d = number_at(text, d, j, i, i < shape.signed, out, n + j);
         j += 1;
+        i = dot::next(i, shape.group);
     }
     d
 }
 
-// Number j of a label, whose byte is put at n.
-fn number_at(text: &[u8], c: Cursor, j: usize, signed: bool, out: &mut [u8], n: usize) -> Cursor
+// Number j of a label, at place i of its group, whose byte is put at n.
+fn number_at(
+    text: &[u8],
+    c: Cursor,
+    j: usize,
+    i: usize,
+    signed: bool,
+    out: &mut [u8],
+    n: usize,
+) -> Cursor
     requires { ⌜ (c .place ≤ length (now text)) × (n < places) ⌝ }
-    ensures { λ d. ⌜ (Numbered (now (text .entry)) c j signed d) × (now (out .exit) ≡ stored (now (out .entry)) n (d .value ∷ [])) ⌝ }
+    ensures { λ d. ⌜ (Numbered (now (text .entry)) c j i signed d) × (now (out .exit) ≡ stored (now (out .entry)) n (d .value ∷ [])) ⌝ }
 {
-    let d = number(text, joint(text, c, j), signed);
+    let d = number(text, joint(text, c, j, i), signed);
     pen::put(out, n, byte(d.value));
     d
 }
 
-// What stands before number j of a label.
-fn joint(text: &[u8], c: Cursor, j: usize) -> Cursor
+// What stands before number j of a label, at place i of its group.
+fn joint(text: &[u8], c: Cursor, j: usize, i: usize) -> Cursor
     requires { ⌜ c .place ≤ length (now text) ⌝ }
-    ensures { λ d. ⌜ Followed (now (text .entry)) c (texts.joint j) d ⌝ }
+    ensures { λ d. ⌜ Followed (now (text .entry)) c (texts.jointAt j i) d ⌝ }
 {
     if j == 0 {
         return c;
     }
-    if j % table::TYPE_BYTES == 0 {
+    if i == 0 {
         return follow(text, c, b", ");
     }
     follow(text, c, b" ")

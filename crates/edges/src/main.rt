@@ -38,7 +38,7 @@ fn main() {
     lent(9);
 }
 
-// Counts and k at 0, 1, the limit and one more; then all limits at once.
+// Counts and k at 0, 1, the limit and one more, the types byte in both editions; then all limits at once. Zero is no divisor.
 fn table_counts() {
     table(0, 7, 1, 3);
     table(1, 7, 1, 3);
@@ -52,6 +52,13 @@ fn table_counts() {
     table(4, 7, 1, 3);
     table(4, 7, 4, 3);
     table(4, 7, 5, 3);
+    table(4, 7, 15, 3);
+    table(4, 7, 16, 3);
+    table(4, 7, 17, 3);
+    table(4, 7, 20, 3);
+    table(4, 7, 21, 3);
+    table(4, 7, 32, 3);
+    table(4, 7, 255, 3);
     table(4, 7, 1, 0);
     table(4, 7, 1, 1);
     table(4, 7, 1, 8);
@@ -102,7 +109,7 @@ fn schedule_distances() {
     changed(1, 5, 255, 0, 0, 0, 0);
 }
 
-// The table's distances: too short, too far, before the start of the table.
+// The table's distances: too short, too far, before the start of the table, of the other edition.
 fn table_distances() {
     changed(1, 39, 42, 0, 0, 0, 0);
     changed(1, 39, 44, 0, 0, 0, 0);
@@ -110,6 +117,8 @@ fn table_distances() {
     changed(1, 37, 34, 0, 0, 0, 0);
     changed(1, 37, 36, 0, 0, 0, 0);
     changed(1, 36, 255, 0, 0, 0, 0);
+    changed(1, 33, 17, 0, 0, 0, 0);
+    changed(17, 33, 1, 0, 0, 0, 0);
 }
 
 // Flags, sent masks, initial and sent, none initial; the lowest of two.
@@ -294,7 +303,7 @@ fn fill(bytes: &mut [u8], c: Case) -> usize
     ensures { λ r. ⌜ r < 5000000000 ⌝ }
 {
     put(bytes, 0, 1);
-    let rules = fault::times(c.rules as usize, 2 + 3 * (c.types as usize));
+    let rules = fault::times(c.rules as usize, layout::rule_bytes(c.types as usize));
     let at = 2 * (c.states as usize) + rules;
     put_trailer(bytes, at, at, rules, c.states, c.rules, c.types, c.k);
     let steps = 4 * (c.steps as usize);

@@ -7,8 +7,7 @@ use borrow.Author.Tests.{lt-ltb, le-ltb, eq-eqb, ne-eqb}
 use Rattle.fault.specs.Fault.{_if_else_}
 use Rattle.decimal.specs.Numbers.{text, decimal, signed, spelling}
 use Rattle.decimal.proofs.NumberLaws.{one-digit, two-digits, three-digits}
-use Rattle.table.specs.Table.{typeBytes}
-use Rattle.dot.specs.Text.{joint}
+use Rattle.dot.specs.Text.{jointAt}
 use Rattle.pen.specs.Pen.{stored, Put}
 use Rattle.pen.proofs.PenLaws.{put-none, put-byte, put-then}
 
@@ -39,14 +38,14 @@ pub spelt-signed : {out end : List ℕ} {n r : ℕ} {t : Bool} (b : ℕ) → t �
 spelt-signed b e p = rw e p
 
 -- ---- joint
-pub put-joint-none : {out : List ℕ} {n j : ℕ} → j ≡ 0 → Put out n (joint j) n out
-unfolding joint _if_else_
-put-joint-none {j = j} h = rw (eq-eqb j 0 h) put-none
+pub put-joint-none : {out : List ℕ} {n j : ℕ} (i : ℕ) → j ≡ 0 → Put out n (jointAt j i) n out
+unfolding jointAt _if_else_
+put-joint-none {j = j} i h = rw (eq-eqb j 0 h) put-none
 
-pub put-joint-type : {out end : List ℕ} {n j r : ℕ} → (j ≡ 0 → ⊥) → j % typeBytes ≡ 0 → Put out n (text ", ") r end → Put out n (joint j) r end
-unfolding joint _if_else_
-put-joint-type {j = j} h k p = rw (ne-eqb j 0 h, eq-eqb (j % typeBytes) 0 k) p
+pub put-joint-group : {out end : List ℕ} {n j i r : ℕ} → (j ≡ 0 → ⊥) → i ≡ 0 → Put out n (text ", ") r end → Put out n (jointAt j i) r end
+unfolding jointAt _if_else_
+put-joint-group {j = j} {i = i} h k p = rw (ne-eqb j 0 h, eq-eqb i 0 k) p
 
-pub joint-blank : {out end : List ℕ} {n j r : ℕ} → (j ≡ 0 → ⊥) → (j % typeBytes ≡ 0 → ⊥) → Put out n (text " ") r end → Put out n (joint j) r end
-unfolding joint _if_else_
-joint-blank {j = j} h k p = rw (ne-eqb j 0 h, ne-eqb (j % typeBytes) 0 k) p
+pub joint-blank : {out end : List ℕ} {n j i r : ℕ} → (j ≡ 0 → ⊥) → (i ≡ 0 → ⊥) → Put out n (text " ") r end → Put out n (jointAt j i) r end
+unfolding jointAt _if_else_
+joint-blank {j = j} {i = i} h k p = rw (ne-eqb j 0 h, ne-eqb i 0 k) p

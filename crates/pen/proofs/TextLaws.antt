@@ -5,9 +5,11 @@ use mathlib.Core.List.{List, [], _∷_, _++_, append-assoc, append-nil}
 use native.Mathlib.Nat.{add-mul, one-mul}
 use native.Mathlib.Omega.{arith}
 use Rattle.fault.specs.Bytes.{byteAt}
-use Rattle.table.specs.Table.{statesOf, rulesOf, typesOf, factorOf, ruleSize, ruleAt, typeBytes, ruleBytes, stateBytes, endBytes}
-use Rattle.decimal.specs.Numbers.{text, decimal, signed}
-use Rattle.dot.specs.Text.{Piece, char, space, must, written, chars, after, tight, aBlank, newLine, headText, joint, numbersText, labelText, stateText, ruleText, statesText, rulesText, tableText, drawingOf}
+use Rattle.layout.specs.Layout.{weightBytes, ruleBytes, endBytes}
+use Rattle.table.specs.Table.{statesOf, rulesOf, typesByte, factorOf, ruleSize, ruleAt, stateBytes}
+use Rattle.decimal.specs.Numbers.{text, decimal, spelling}
+use Rattle.dot.specs.declared.Shape.{Shape}
+use Rattle.dot.specs.Text.{stateShape, ruleShape, negative, Piece, char, space, must, written, chars, after, tight, aBlank, newLine, headText, joint, numbersText, labelText, stateText, ruleText, statesText, rulesText, tableText, drawingOf}
 use Rattle.pen.specs.Pen.{alone, labelled}
 
 -- ---- parts
@@ -65,44 +67,44 @@ unfolding written
 end-writes = record { before = λ p. refl }
 
 -- ---- a label
-module _ (spell : ℕ → List ℕ) (s : List ℕ) where
-  numbers-writes : (g j at : ℕ) → Writes (numbersText spell g j s at) (alone (numbersText spell g j s at))
+module _ (shape : Shape) (s : List ℕ) where
+  numbers-writes : (g j at : ℕ) → Writes (numbersText shape g j s at) (alone (numbersText shape g j s at))
   unfolding numbersText written
   numbers-writes zero j at = writes-nothing
-  numbers-writes (suc g) j at = writes-itself (writes-then (writes-chars (joint j)) (writes-then (writes-chars (spell (byteAt s at))) (numbers-writes g (j + 1) (at + 1))))
+  numbers-writes (suc g) j at = writes-itself (writes-then (writes-chars (joint shape j)) (writes-then (writes-chars (spelling (negative shape j) (byteAt s at))) (numbers-writes g (j + 1) (at + 1))))
 
-  numbers-is : (g j at : ℕ) → alone (numbersText spell (suc g) j s at) ≡ (joint j ++ spell (byteAt s at)) ++ alone (numbersText spell g (j + 1) s (at + 1))
+  numbers-is : (g j at : ℕ) → alone (numbersText shape (suc g) j s at) ≡ (joint shape j ++ spelling (negative shape j) (byteAt s at)) ++ alone (numbersText shape g (j + 1) s (at + 1))
   unfolding numbersText
-  numbers-is g j at = writes-alone (writes-then (writes-then (writes-chars (joint j)) (writes-chars (spell (byteAt s at)))) (numbers-writes g (j + 1) (at + 1)))
+  numbers-is g j at = writes-alone (writes-then (writes-then (writes-chars (joint shape j)) (writes-chars (spelling (negative shape j) (byteAt s at)))) (numbers-writes g (j + 1) (at + 1)))
 
-  label-writes : (g at : ℕ) → Writes (labelled spell g s at) (text " [label=\"" ++ (alone (numbersText spell g 0 s at) ++ text "\"];"))
+  label-writes : (g at : ℕ) → Writes (labelled shape g s at) (text " [label=\"" ++ (alone (numbersText shape g 0 s at) ++ text "\"];"))
   unfolding labelText
   label-writes g at = writes-then label-begins (writes-then (numbers-writes g 0 at) label-ends)
 
-  pub label-is : (g at : ℕ) → alone (labelled spell g s at) ≡ text " [label=\"" ++ (alone (numbersText spell g 0 s at) ++ text "\"];")
+  pub label-is : (g at : ℕ) → alone (labelled shape g s at) ≡ text " [label=\"" ++ (alone (numbersText shape g 0 s at) ++ text "\"];")
   label-is g at = writes-alone (label-writes g at)
 
   -- the rest of the numbers, from j on
-  pub numbers-first : (g at : ℕ) → alone (numbersText spell g 0 s at) ≡ alone (numbersText spell g 0 s (at + 0))
+  pub numbers-first : (g at : ℕ) → alone (numbersText shape g 0 s at) ≡ alone (numbersText shape g 0 s (at + 0))
   numbers-first g at = let e : at + 0 ≡ at = omega arith in rw e
 
-  pub numbers-more : (left j at : ℕ) → 0 < left → alone (numbersText spell left j s (at + j)) ≡ (joint j ++ spell (byteAt s (at + j))) ++ alone (numbersText spell (left - 1) (j + 1) s (at + (j + 1)))
+  pub numbers-more : (left j at : ℕ) → 0 < left → alone (numbersText shape left j s (at + j)) ≡ (joint shape j ++ spelling (negative shape j) (byteAt s (at + j))) ++ alone (numbersText shape (left - 1) (j + 1) s (at + (j + 1)))
   numbers-more zero j at h = absurd (omega arith)
   numbers-more (suc left) j at h =
       let e : suc left - 1 ≡ left = omega arith in
       let f : at + (j + 1) ≡ at + j + 1 = omega arith in
       rw (e, f) (numbers-is left j (at + j))
 
-  pub numbers-over : (left j at : ℕ) → left ≤ 0 → alone (numbersText spell left j s at) ≡ []
+  pub numbers-over : (left j at : ℕ) → left ≤ 0 → alone (numbersText shape left j s at) ≡ []
   unfolding numbersText written
   numbers-over left j at h = let e : left ≡ 0 = omega arith in rw e
 
 -- ---- a state
-state-writes : (s : List ℕ) (i : ℕ) → Writes (stateText s i) (text "\ns" ++ decimal i ++ alone (labelled decimal stateBytes s (stateBytes * i)))
+state-writes : (s : List ℕ) (i : ℕ) → Writes (stateText s i) (text "\ns" ++ decimal i ++ alone (labelled stateShape stateBytes s (stateBytes * i)))
 unfolding stateText
-state-writes s i = writes-then (writes-then (writes-after newLine (text "s")) (writes-chars (decimal i))) (writes-itself (label-writes decimal s 2 (stateBytes * i)))
+state-writes s i = writes-then (writes-then (writes-after newLine (text "s")) (writes-chars (decimal i))) (writes-itself (label-writes stateShape s stateBytes (stateBytes * i)))
 
-pub state-is : (s : List ℕ) (i : ℕ) → alone (stateText s i) ≡ text "\ns" ++ decimal i ++ alone (labelled decimal stateBytes s (stateBytes * i))
+pub state-is : (s : List ℕ) (i : ℕ) → alone (stateText s i) ≡ text "\ns" ++ decimal i ++ alone (labelled stateShape stateBytes s (stateBytes * i))
 state-is s i = writes-alone (state-writes s i)
 
 module _ (s : List ℕ) where
@@ -127,54 +129,54 @@ module _ (s : List ℕ) where
   states-over x i h = let e : x - i ≡ 0 = omega arith in rw e
 
 -- ---- a rule
-module _ (T : ℕ) (s : List ℕ) where
-  rule-writes : (at : ℕ) → Writes (ruleText T s at) (text "\ns" ++ decimal (byteAt s at) ++ (text " -> s" ++ decimal (byteAt s (at + 1)) ++ alone (labelled signed (typeBytes * T) s (at + endBytes))))
+module _ (byte : ℕ) (s : List ℕ) where
+  rule-writes : (at : ℕ) → Writes (ruleText byte s at) (text "\ns" ++ decimal (byteAt s at) ++ (text " -> s" ++ decimal (byteAt s (at + 1)) ++ alone (labelled (ruleShape byte) (weightBytes byte) s (at + endBytes))))
   unfolding ruleText
   rule-writes at =
-      writes-then (writes-then (writes-after newLine (text "s")) (writes-chars (decimal (byteAt s at)))) (writes-then (writes-then rule-points (writes-chars (decimal (byteAt s (at + 1))))) (writes-itself (label-writes signed s (typeBytes * T) (at + endBytes))))
+      writes-then (writes-then (writes-after newLine (text "s")) (writes-chars (decimal (byteAt s at)))) (writes-then (writes-then rule-points (writes-chars (decimal (byteAt s (at + 1))))) (writes-itself (label-writes (ruleShape byte) s (weightBytes byte) (at + endBytes))))
 
-  pub rule-is : (at : ℕ) → alone (ruleText T s at) ≡ text "\ns" ++ decimal (byteAt s at) ++ (text " -> s" ++ decimal (byteAt s (at + 1)) ++ alone (labelled signed (typeBytes * T) s (at + endBytes)))
+  pub rule-is : (at : ℕ) → alone (ruleText byte s at) ≡ text "\ns" ++ decimal (byteAt s at) ++ (text " -> s" ++ decimal (byteAt s (at + 1)) ++ alone (labelled (ruleShape byte) (weightBytes byte) s (at + endBytes)))
   rule-is at = writes-alone (rule-writes at)
 
-  rules-writes : (x at : ℕ) → Writes (rulesText x T s at) (alone (rulesText x T s at))
+  rules-writes : (x at : ℕ) → Writes (rulesText x byte s at) (alone (rulesText x byte s at))
   unfolding rulesText written
   rules-writes zero at = writes-nothing
-  rules-writes (suc x) at = writes-itself (writes-then (rule-writes at) (rules-writes x (at + ruleBytes T)))
+  rules-writes (suc x) at = writes-itself (writes-then (rule-writes at) (rules-writes x (at + ruleBytes byte)))
 
-  rules-is : (x at : ℕ) → alone (rulesText (suc x) T s at) ≡ alone (ruleText T s at) ++ alone (rulesText x T s (at + ruleBytes T))
+  rules-is : (x at : ℕ) → alone (rulesText (suc x) byte s at) ≡ alone (ruleText byte s at) ++ alone (rulesText x byte s (at + ruleBytes byte))
   unfolding rulesText
-  rules-is x at = writes-alone (writes-then (writes-itself (rule-writes at)) (rules-writes x (at + ruleBytes T)))
+  rules-is x at = writes-alone (writes-then (writes-itself (rule-writes at)) (rules-writes x (at + ruleBytes byte)))
 
 -- where the next rule starts
-rule-next : (s : List ℕ) (k : ℕ) → ruleAt s (k + 1) ≡ ruleAt s k + ruleBytes (typesOf s)
+rule-next : (s : List ℕ) (k : ℕ) → ruleAt s (k + 1) ≡ ruleAt s k + ruleBytes (typesByte s)
 unfolding ruleAt
 rule-next s k = omega (arith, add-mul k 1 (ruleSize s), one-mul (ruleSize s))
 
 -- the rest of a table's rules from k on
-pub rules-first : (s : List ℕ) → alone (rulesText (rulesOf s) (typesOf s) s (stateBytes * statesOf s)) ≡ alone (rulesText (rulesOf s - 0) (typesOf s) s (ruleAt s 0))
+pub rules-first : (s : List ℕ) → alone (rulesText (rulesOf s) (typesByte s) s (stateBytes * statesOf s)) ≡ alone (rulesText (rulesOf s - 0) (typesByte s) s (ruleAt s 0))
 unfolding ruleAt
 rules-first s =
     let e : stateBytes * statesOf s + 0 * ruleSize s ≡ stateBytes * statesOf s = omega arith in
     let f : rulesOf s - 0 ≡ rulesOf s = omega arith in
     rw (e, f)
 
-pub rules-more : (s : List ℕ) (x k : ℕ) → k < x → alone (rulesText (x - k) (typesOf s) s (ruleAt s k)) ≡ alone (ruleText (typesOf s) s (ruleAt s k)) ++ alone (rulesText (x - (k + 1)) (typesOf s) s (ruleAt s (k + 1)))
-rules-more s x k h = let e : x - k ≡ suc (x - (k + 1)) = omega arith in rw (e, rule-next s k) (rules-is (typesOf s) s (x - (k + 1)) (ruleAt s k))
+pub rules-more : (s : List ℕ) (x k : ℕ) → k < x → alone (rulesText (x - k) (typesByte s) s (ruleAt s k)) ≡ alone (ruleText (typesByte s) s (ruleAt s k)) ++ alone (rulesText (x - (k + 1)) (typesByte s) s (ruleAt s (k + 1)))
+rules-more s x k h = let e : x - k ≡ suc (x - (k + 1)) = omega arith in rw (e, rule-next s k) (rules-is (typesByte s) s (x - (k + 1)) (ruleAt s k))
 
-pub rules-over : (s : List ℕ) (x k at : ℕ) → x ≤ k → alone (rulesText (x - k) (typesOf s) s at) ≡ []
+pub rules-over : (s : List ℕ) (x k at : ℕ) → x ≤ k → alone (rulesText (x - k) (typesByte s) s at) ≡ []
 unfolding rulesText written
 rules-over s x k at h = let e : x - k ≡ 0 = omega arith in rw e
 
 -- ---- the whole
-head-writes : (T k : ℕ) → Writes (headText T k) (text "digraph t {\nT=" ++ decimal T ++ (text "; k=" ++ decimal k ++ text ";"))
+head-writes : (byte k : ℕ) → Writes (headText byte k) (text "digraph t {\nT=" ++ decimal byte ++ (text "; k=" ++ decimal k ++ text ";"))
 unfolding headText
-head-writes T k =
-    writes-then (writes-then head-begins (writes-chars (decimal T))) (writes-then (writes-then head-goes-on (writes-chars (decimal k))) (writes-after tight (text ";")))
+head-writes byte k =
+    writes-then (writes-then head-begins (writes-chars (decimal byte))) (writes-then (writes-then head-goes-on (writes-chars (decimal k))) (writes-after tight (text ";")))
 
-pub head-is : (T k : ℕ) → alone (headText T k) ≡ text "digraph t {\nT=" ++ decimal T ++ (text "; k=" ++ decimal k ++ text ";")
-head-is T k = writes-alone (head-writes T k)
+pub head-is : (byte k : ℕ) → alone (headText byte k) ≡ text "digraph t {\nT=" ++ decimal byte ++ (text "; k=" ++ decimal k ++ text ";")
+head-is byte k = writes-alone (head-writes byte k)
 
-pub drawing-is : (s : List ℕ) → drawingOf s ≡ alone (headText (typesOf s) (factorOf s)) ++ (alone (statesText (statesOf s) s 0) ++ (alone (rulesText (rulesOf s) (typesOf s) s (stateBytes * statesOf s)) ++ text "\n}\n"))
+pub drawing-is : (s : List ℕ) → drawingOf s ≡ alone (headText (typesByte s) (factorOf s)) ++ (alone (statesText (statesOf s) s 0) ++ (alone (rulesText (rulesOf s) (typesByte s) s (stateBytes * statesOf s)) ++ text "\n}\n"))
 unfolding drawingOf tableText
 drawing-is s =
-    writes-alone (writes-then (writes-itself (head-writes (typesOf s) (factorOf s))) (writes-then (states-writes s (statesOf s) 0) (writes-then (rules-writes (typesOf s) s (rulesOf s) (stateBytes * statesOf s)) end-writes)))
+    writes-alone (writes-then (writes-itself (head-writes (typesByte s) (factorOf s))) (writes-then (states-writes s (statesOf s) 0) (writes-then (rules-writes (typesByte s) s (rulesOf s) (stateBytes * statesOf s)) end-writes)))

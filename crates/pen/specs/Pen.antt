@@ -5,9 +5,11 @@ use mathlib.Core.List.{List, [], _∷_}
 use lib.ListN.{length, set}
 use Rattle.fault.specs.Tests.{_below_}
 use Rattle.fault.specs.Fault.{_if_else_}
-use Rattle.table.specs.Table.{mostStates, mostRules}
+use Rattle.layout.specs.Layout.{weightBytes, endBytes}
+use Rattle.table.specs.Table.{typesByte, mostStates, mostRules, ruleAt}
 use Rattle.decimal.specs.Numbers.{text}
-use Rattle.dot.specs.Text.{Piece, written, after, aBlank, labelText}
+use Rattle.dot.specs.declared.Shape.{Shape}
+use Rattle.dot.specs.Text.{Piece, written, after, aBlank, ruleShape, labelText}
 
 -- a place is below 2^64 - 1, so that the next one never wraps
 abbrev pub places : ℕ
@@ -31,8 +33,12 @@ mostHeadText = 25
 abbrev pub mostStateText : ℕ
 mostStateText = 29
 
+-- of a rule the label, with 16 numbers, and all
+abbrev pub mostWeightsText : ℕ
+mostWeightsText = 108
+
 abbrev pub mostRuleText : ℕ
-mostRuleText = 97
+mostRuleText = 13 + mostWeightsText
 
 abbrev pub mostStatesText : ℕ
 mostStatesText = mostStates * mostStateText
@@ -40,7 +46,7 @@ mostStatesText = mostStates * mostStateText
 abbrev pub mostRulesText : ℕ
 mostRulesText = mostRules * mostRuleText
 
--- and of a drawing with its last line: 6,700
+-- and of a drawing with its last line: 8,236
 abbrev pub mostDrawing : ℕ
 mostDrawing = mostHeadText + mostStatesText + mostRulesText + 3
 
@@ -49,5 +55,9 @@ abbrev pub alone : (List Piece → List Piece) → List ℕ
 alone part = written (part [])
 
 -- a label with its bracket
-abbrev pub labelled : (ℕ → List ℕ) → ℕ → List ℕ → ℕ → List Piece → List Piece
-labelled spell g s at p = after aBlank (text "[") (labelText spell g s at p)
+abbrev pub labelled : Shape → ℕ → List ℕ → ℕ → List Piece → List Piece
+labelled shape g s at p = after aBlank (text "[") (labelText shape g s at p)
+
+-- that of rule k
+abbrev pub weightsText : List ℕ → ℕ → List Piece → List Piece
+weightsText s k = labelled (ruleShape (typesByte s)) (weightBytes (typesByte s)) s (ruleAt s k + endBytes)

@@ -3,12 +3,13 @@ ghost use mathlib.Core.Path.{_≡_};
 ghost use mathlib.Core.List.{[], _∷_, _++_};
 ghost use Prim.Native.Nat.{_+_, _*_, _≤_, _<_};
 ghost use lib.ListN.{length};
-ghost use Rattle.table.specs.Table.{statesOf, rulesOf, typesOf, factorOf, ruleAt, stateBytes};
+ghost use Rattle.table.specs.Table.{statesOf, rulesOf, typesByte, factorOf, ruleAt, stateBytes};
 ghost use Rattle.table.specs.Facts.{Sized};
 ghost use Rattle.decimal.specs.Numbers.{decimal, spelling};
 ghost use Rattle.decimal.specs.Numbers as numbers;
-ghost use Rattle.dot.specs.Text.{headText, joint, numbersText, stateText, ruleText, statesText, rulesText, drawingOf};
-ghost use Rattle.pen.specs.Pen.{places, stored, Put, alone, labelled, mostHeadText, mostStateText, mostRuleText, mostStatesText, mostRulesText, mostDrawing};
+ghost use Rattle.dot.specs.Text.{headText, jointAt, numbersText, stateText, ruleText, statesText, rulesText, drawingOf};
+ghost use Rattle.pen.specs.Pen.{places, stored, Put, alone, labelled, weightsText, mostHeadText, mostStateText, mostWeightsText, mostRuleText, mostStatesText, mostRulesText, mostDrawing};
+use dot::Shape;
 
 // The drawing of a table that was read, so far as it fits; and how many bytes it has.
 pub fn write(table: &[u8], out: &mut [u8]) -> usize
@@ -24,9 +25,9 @@ pub fn write(table: &[u8], out: &mut [u8]) -> usize
 // The head at n, up to the line feed before the first state; and the place after it.
 fn put_head(out: &mut [u8], n: usize, table: &[u8]) -> usize
     requires { ⌜ (n + mostHeadText ≤ places) × Sized (now table) ⌝ }
-    ensures { λ r. ⌜ Put (now (out .entry)) n (alone (headText (typesOf (now (table .entry))) (factorOf (now (table .entry))))) r (now (out .exit)) × (r ≤ n + mostHeadText) ⌝ }
+    ensures { λ r. ⌜ Put (now (out .entry)) n (alone (headText (typesByte (now (table .entry))) (factorOf (now (table .entry))))) r (now (out .exit)) × (r ≤ n + mostHeadText) ⌝ }
 {
-    let n = put_numbered(out, n, b"digraph t {\nT=", table::types(table));
+    let n = put_numbered(out, n, b"digraph t {\nT=", table::types_byte(table));
     let n = put_numbered(out, n, b"; k=", table::factor(table));
     put_all(out, n, b";")
 }
@@ -58,14 +59,14 @@ fn put_state(out: &mut [u8], n: usize, table: &[u8], i: usize) -> usize
         table,
         table::STATE_BYTES * i,
         table::STATE_BYTES,
-        false,
+        dot::of_state(),
     )
 }
 
 // The lines of all rules at n; and the place after them.
 fn put_rules(out: &mut [u8], n: usize, table: &[u8]) -> usize
     requires { ⌜ (n + mostRulesText ≤ places) × Sized (now table) ⌝ }
-    ensures { λ r. ⌜ Put (now (out .entry)) n (alone (rulesText (rulesOf (now (table .entry))) (typesOf (now (table .entry))) (now (table .entry)) (stateBytes * statesOf (now (table .entry))))) r (now (out .exit)) × (r ≤ n + mostRulesText) ⌝ }
+    ensures { λ r. ⌜ Put (now (out .entry)) n (alone (rulesText (rulesOf (now (table .entry))) (typesByte (now (table .entry))) (now (table .entry)) (stateBytes * statesOf (now (table .entry))))) r (now (out .exit)) × (r ≤ n + mostRulesText) ⌝ }
 {
     let rules = table::rules(table);
     let mut k = 0;
@@ -80,65 +81,78 @@ fn put_rules(out: &mut [u8], n: usize, table: &[u8]) -> usize
 // The line of rule k at n, and the place after it.
 fn put_rule(out: &mut [u8], n: usize, table: &[u8], k: usize) -> usize
     requires { ⌜ (n + mostRuleText ≤ places) × Sized (now table) × (k < rulesOf (now table)) ⌝ }
-    ensures { λ r. ⌜ Put (now (out .entry)) n (alone (ruleText (typesOf (now (table .entry))) (now (table .entry)) (ruleAt (now (table .entry)) k))) r (now (out .exit)) × (r ≤ n + mostRuleText) ⌝ }
+    ensures { λ r. ⌜ Put (now (out .entry)) n (alone (ruleText (typesByte (now (table .entry))) (now (table .entry)) (ruleAt (now (table .entry)) k))) r (now (out .exit)) × (r ≤ n + mostRuleText) ⌝ }
 {
     let n = put_numbered(out, n, b"\ns", table::from(table, k));
     let n = put_numbered(out, n, b" -> s", table::to(table, k));
-    let at = table::rule_at(table, k) + table::END_BYTES;
+    put_weights(out, n, table, k)
+}
+
+// The label of rule k at n, and the place after it.
+fn put_weights(out: &mut [u8], n: usize, table: &[u8], k: usize) -> usize
+    requires { ⌜ (n + mostWeightsText ≤ places) × Sized (now table) × (k < rulesOf (now table)) ⌝ }
+    ensures { λ r. ⌜ Put (now (out .entry)) n (alone (weightsText (now (table .entry)) k)) r (now (out .exit)) × (r ≤ n + mostWeightsText) ⌝ }
+{
+    let at = table::rule_at(table, k) + layout::END_BYTES;
+    let byte = table::types_byte(table);
     put_label(
         out,
         n,
         table,
         at,
-        table::TYPE_BYTES * table::types(table),
-        true,
+        layout::weight_bytes(byte),
+        dot::of_rule(byte),
     )
 }
 
 // A label of g numbers at n, which are the table's bytes from `at` on; and the place after it.
-fn put_label(out: &mut [u8], n: usize, table: &[u8], at: usize, g: usize, signed: bool) -> usize
-    requires { ⌜ (n + 6 * g + 12 ≤ places) × (at + g ≤ length (now table)) ⌝ }
-    ensures { λ r. ⌜ Put (now (out .entry)) n (alone (labelled (spelling signed) g (now (table .entry)) at)) r (now (out .exit)) × (r ≤ n + 6 * g + 12) ⌝ }
+fn put_label(out: &mut [u8], n: usize, table: &[u8], at: usize, g: usize, shape: Shape) -> usize
+    requires { ⌜ (n + 6 * g + 12 ≤ places) × (at + g ≤ length (now table)) × (1 ≤ shape .group) ⌝ }
+    ensures { λ r. ⌜ Put (now (out .entry)) n (alone (labelled shape g (now (table .entry)) at)) r (now (out .exit)) × (r ≤ n + 6 * g + 12) ⌝ }
 {
     let n = put_all(out, n, b" [label=\"");
-    let n = put_numbers(out, n, table, at, g, signed);
+    let n = put_numbers(out, n, table, at, g, shape);
     put_all(out, n, b"\"];")
 }
 
 // The g numbers of a label at n, from the first on; and the place after them.
-fn put_numbers(out: &mut [u8], n: usize, table: &[u8], at: usize, g: usize, signed: bool) -> usize
-    requires { ⌜ (n + 6 * g ≤ places) × (at + g ≤ length (now table)) ⌝ }
-    ensures { λ r. ⌜ Put (now (out .entry)) n (alone (numbersText (spelling signed) g 0 (now (table .entry)) at)) r (now (out .exit)) × (r ≤ n + 6 * g) ⌝ }
+fn put_numbers(out: &mut [u8], n: usize, table: &[u8], at: usize, g: usize, shape: Shape) -> usize
+    requires { ⌜ (n + 6 * g ≤ places) × (at + g ≤ length (now table)) × (1 ≤ shape .group) ⌝ }
+    ensures { λ r. ⌜ Put (now (out .entry)) n (alone (numbersText shape g 0 (now (table .entry)) at)) r (now (out .exit)) × (r ≤ n + 6 * g) ⌝ }
 {
     let mut left = g;
     let mut j = 0;
+    // The place of number j in its group.
+    let mut i = 0;
     let mut m = n;
     while 0 < left {
         left -= 1;
-        m = put_number(out, m, j, fault::byte_at(table, at + j), signed);
+        let b = fault::byte_at(table, at + j);
+        m = put_number(out, m, j, i, b, i < shape.signed);
         j += 1;
+        i = dot::next(i, shape.group);
     }
     m
 }
 
-// The number j of a label at n, with what joins it to the one before; and the place after it.
-fn put_number(out: &mut [u8], n: usize, j: usize, b: usize, signed: bool) -> usize
+// The number j of a label, at place i of its group, at n, with what joins it to the one before; and the place after it.
+fn put_number(out: &mut [u8], n: usize, j: usize, i: usize, b: usize, signed: bool) -> usize
     requires { ⌜ (n + 6 ≤ places) × (b < 256) ⌝ }
-    ensures { λ r. ⌜ Put (now (out .entry)) n (joint j ++ spelling signed b) r (now (out .exit)) × (r ≤ n + 6) ⌝ }
+    ensures { λ r. ⌜ Put (now (out .entry)) n (jointAt j i ++ spelling signed b) r (now (out .exit)) × (r ≤ n + 6) ⌝ }
 {
-    let n = put_joint(out, n, j);
+    let n = put_joint(out, n, j, i);
     put_spelt(out, n, b, signed)
 }
 
-// What stands before the number j of a label, at n; and the place after it.
-fn put_joint(out: &mut [u8], n: usize, j: usize) -> usize
+// What stands before the number j of a label, at place i of its group, at n; and the place after it.
+fn put_joint(out: &mut [u8], n: usize, j: usize, i: usize) -> usize
     requires { ⌜ n + 2 ≤ places ⌝ }
-    ensures { λ r. ⌜ Put (now (out .entry)) n (joint j) r (now (out .exit)) × (r ≤ n + 2) ⌝ }
+    ensures { λ r. ⌜ Put (now (out .entry)) n (jointAt j i) r (now (out .exit)) × (r ≤ n + 2) ⌝ }
 {
     if j == 0 {
         return n;
     }
-    if j % table::TYPE_BYTES == 0 {
+    if i == 0 {
         return put_all(out, n, b", ");
     }
     put_all(out, n, b" ")

@@ -7,13 +7,15 @@ use native.Mathlib.Omega.{arith}
 use lib.ListN.{length, getD, set, length-set}
 use lib.Seq.{getD-set-same, getD-set-other}
 use Rattle.threshold.proofs.LeastLaws.{from-least}
-use Rattle.threshold.specs.Threshold.{thresholdIn, leastOf}
-use Rattle.table.specs.Table.{fromOf, toOf, ruleOf, coefficientsOf}
+use Rattle.threshold.specs.Threshold.{thresholdOf, leastOf}
+use Rattle.threshold.specs.declared.Weights.{Weights}
+use Rattle.layout.specs.Layout.{typesIn, weightsOf}
+use Rattle.table.specs.Table.{typesByte, ruleSize, fromOf, toOf, ruleOf}
 use Rattle.words.specs.declared.Sizes.{Sizes}
 use Rattle.fault.specs.Tests.{_atLeast_}
 use Rattle.rules.specs.Design.{thresholdFor, metAt, leastAt, sendsOf, designOf}
 use Rattle.rules.specs.Kept.{keptLeast, Kept}
-use Rattle.rules.specs.Facts.{Suits, EndsAt, EndsTo, LeastsTo, RowTo}
+use Rattle.rules.specs.Facts.{Suits, Recorded, EndsAt, EndsTo, LeastsTo, RowTo}
 
 -- a threshold is met by the counts from the least one on
 met-is : {x : ℕ} (table : List ℕ) (r m n t c : ℕ) → x ≡ leastAt table r m n t → metAt table r m n t c ≡ (c atLeast x)
@@ -67,39 +69,57 @@ module _ (s : Sizes) (table : List ℕ) where
             record { from = before (r * 4) (omega arith) ∙ A .from; to = before (r * 4 + 1) (omega arith) ∙ A .to; sends = before (r * 4 + 2) (omega arith) ∙ A .sends }
 
 -- ---- the least counts
-module _ (s : Sizes) (t : ℕ) where
-  pub row-none : (rule u : List ℕ) (k : ℕ) → length u ≡ 256 → RowTo s t rule u u k 0
+-- the record of a table's rule
+pub recorded : {byte : ℕ} {rule : List ℕ} (s : Sizes) (table : List ℕ) (r : ℕ) → Suits s table → r < s .rules → byte ≡ typesByte table → byte < 256 → rule ≡ ruleOf table r
+    → length rule ≡ ruleSize table → Recorded s byte rule
+recorded {byte} {rule} s table r S h b l e n = record {
+  small = l;
+  types = rw b (S .types);
+  long = rw b n;
+  divides = rw (b, e) (S .formed .rule r (rw (← S .rules) h) .divides);
+}
+
+-- what it says of a type below T
+module _ (s : Sizes) (byte : ℕ) (rule : List ℕ) (m : ℕ) (R : Recorded s byte rule) (h : m < s .types) where
+  pub type-below : m < typesIn byte
+  type-below = rw (R .types) at h
+
+  pub some-divisor : {x : Weights} → x ≡ weightsOf byte rule m → 1 ≤ x .e
+  some-divisor e = rw e (R .divides .some-divisor m type-below)
+
+module _ (s : Sizes) (byte t : ℕ) where
+  pub row-none : (rule u : List ℕ) (k : ℕ) → length u ≡ 256 → RowTo s byte t rule u u k 0
   row-none rule u k l = record { long = l; before = λ i h. refl; row = λ m h. absurd (omega arith) }
 
-  pub row-all : (rule u v : List ℕ) (k j n : ℕ) → j ≤ n → n ≤ j → RowTo s t rule u v k j → RowTo s t rule u v k n
+  pub row-all : (rule u v : List ℕ) (k j n : ℕ) → j ≤ n → n ≤ j → RowTo s byte t rule u v k j → RowTo s byte t rule u v k n
   row-all rule u v k j n a b R = let e : n ≡ j = omega arith in rw e R
 
-  pub row-more : {x : ℕ} (rule u v : List ℕ) (k j : ℕ) → k < 64 → j < 4 → RowTo s t rule u v k j
-      → x ≡ leastOf (thresholdIn (coefficientsOf rule j) (s .correct + s .faulty) t) → RowTo s t rule u (set v (k * 4 + j) x) k (j + 1)
+  pub row-more : {x : ℕ} (rule u v : List ℕ) (k j : ℕ) → k < 64 → j < 4 → RowTo s byte t rule u v k j
+      → x ≡ leastOf (thresholdOf (weightsOf byte rule j) (s .correct + s .faulty) t) → RowTo s byte t rule u (set v (k * 4 + j) x) k (j + 1)
   row-more {x} rule u v k j h l R e = record {
     long = length-set v (k * 4 + j) x ∙ R .long;
     before = λ i a. getD-set-other v (k * 4 + j) i x 0 (λ z. omega arith) ∙ R .before i a;
     row = λ m a. go m a (ℕ-discrete m j);
   }
     where
-      go : (m : ℕ) → m < j + 1 → Dec (m ≡ j) → getD (set v (k * 4 + j) x) (k * 4 + m) 0 ≡ leastOf (thresholdIn (coefficientsOf rule m) (s .correct + s .faulty) t)
+      go : (m : ℕ) → m < j + 1 → Dec (m ≡ j) → getD (set v (k * 4 + j) x) (k * 4 + m) 0 ≡ leastOf (thresholdOf (weightsOf byte rule m) (s .correct + s .faulty) t)
       go m a (yes z) = rw z (getD-set-same v (k * 4 + j) x 0 (omega (arith, R .long)) ∙ e)
       go m a (no z) = getD-set-other v (k * 4 + j) (k * 4 + m) x 0 (λ y. omega arith) ∙ R .row m (omega arith)
 
-  module _ (table : List ℕ) where
-    pub leasts-none : (u : List ℕ) → length u ≡ 256 → LeastsTo s t table u 0
-    leasts-none u l = record { long = l; at = λ r m h. absurd (omega arith) }
+module _ (s : Sizes) (t : ℕ) (table : List ℕ) where
+  pub leasts-none : (u : List ℕ) → length u ≡ 256 → LeastsTo s t table u 0
+  leasts-none u l = record { long = l; at = λ r m h. absurd (omega arith) }
 
-    pub leasts-all : (u : List ℕ) (k n : ℕ) → k ≤ n → n ≤ k → LeastsTo s t table u k → LeastsTo s t table u n
-    leasts-all u k n a b L = let e : n ≡ k = omega arith in rw e L
+  pub leasts-all : (u : List ℕ) (k n : ℕ) → k ≤ n → n ≤ k → LeastsTo s t table u k → LeastsTo s t table u n
+  leasts-all u k n a b L = let e : n ≡ k = omega arith in rw e L
 
-    pub leasts-more : {rule : List ℕ} (u v : List ℕ) (k : ℕ) → s .types ≤ 4 → LeastsTo s t table u k → rule ≡ ruleOf table k
-        → RowTo s t rule u v k (s .types) → LeastsTo s t table v (k + 1)
-    leasts-more {rule} u v k few L e R = record { long = R .long; at = λ r m h l. go r m h l (ℕ-discrete r k) }
-      where
-        go : (r m : ℕ) → r < k + 1 → m < s .types → Dec (r ≡ k) → keptLeast v r m ≡ leastAt table r m (s .correct + s .faulty) t
-        go r m h l (yes z) = rw (z, ← e) (R .row m l)
-        go r m h l (no z) = R .before (r * 4 + m) (omega arith) ∙ L .at r m (omega arith) l
+  pub leasts-more : {byte : ℕ} {rule : List ℕ} (u v : List ℕ) (k : ℕ) → s .types ≤ 4 → LeastsTo s t table u k → byte ≡ typesByte table → rule ≡ ruleOf table k
+      → RowTo s byte t rule u v k (s .types) → LeastsTo s t table v (k + 1)
+  leasts-more {byte} {rule} u v k few L b e R = record { long = R .long; at = λ r m h l. go r m h l (ℕ-discrete r k) }
+    where
+      go : (r m : ℕ) → r < k + 1 → m < s .types → Dec (r ≡ k) → keptLeast v r m ≡ leastAt table r m (s .correct + s .faulty) t
+      go r m h l (yes z) = rw (z, ← e, ← b) (R .row m l)
+      go r m h l (no z) = R .before (r * 4 + m) (omega arith) ∙ L .at r m (omega arith) l
 
 -- ---- all of them stand for the table's design
 pub kept-by : (s : Sizes) (t : ℕ) (table e l : List ℕ) → Suits s table → EndsTo (s .types) table e (s .rules) → LeastsTo s t table l (s .rules) → Kept (designOf s t table) s e l

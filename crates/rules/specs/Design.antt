@@ -5,15 +5,15 @@ use Prim.Native.Nat.{ℕ, _+_}
 use lib.IntN.{ℤ}
 use Rattle.senders.specs.Tally.{least}
 use Rattle.senders.specs.Set.{mem, missing}
-use Rattle.threshold.specs.Threshold.{thresholdIn, metBy, leastOf}
+use Rattle.threshold.specs.Threshold.{thresholdOf, metBy, leastOf}
 use Rattle.table.specs.Table as table
-use Rattle.table.specs.Table.{initialOf, fromOf, toOf, ruleOf, coefficientsOf}
+use Rattle.table.specs.Table.{initialOf, fromOf, toOf, weightsFor}
 use Rattle.paper.specs.Paper.{Design}
 use Rattle.words.specs.declared.Sizes.{Sizes}
 
 -- the threshold of rule r for type m
 abbrev pub thresholdFor : List ℕ → ℕ → ℕ → ℕ → ℕ → ℤ
-thresholdFor table r m n t = thresholdIn (coefficientsOf (ruleOf table r) m) n t
+thresholdFor table r m n t = thresholdOf (weightsFor table r m) n t
 
 unfoldable pub metAt : List ℕ → ℕ → ℕ → ℕ → ℕ → ℕ → Bool
 metAt table r m n t count = metBy count (thresholdFor table r m n t)

@@ -3,8 +3,9 @@ use mathlib.Core.Path.{_≡_}
 use mathlib.Core.List.{List}
 use Prim.Native.Nat.{ℕ, _+_, _*_, _<_}
 use lib.ListN.{length, getD}
-use Rattle.threshold.specs.Threshold.{thresholdIn, leastOf}
-use Rattle.table.specs.Table.{rulesOf, typesOf, fromOf, toOf, coefficientsOf}
+use Rattle.threshold.specs.Threshold.{thresholdOf, leastOf}
+use Rattle.layout.specs.Layout.{typesIn, ruleBytes, weightsOf, Divides}
+use Rattle.table.specs.Table.{rulesOf, typesOf, fromOf, toOf}
 use Rattle.table.specs.Facts.{WellFormed}
 use Rattle.words.specs.declared.Sizes.{Sizes}
 use Rattle.words.specs.Facts.{Bounded}
@@ -17,6 +18,13 @@ pub record Suits (s : Sizes) (table : List ℕ) : Type 0 where
   pub formed : WellFormed table
   pub types : s .types ≡ typesOf table
   pub rules : s .rules ≡ rulesOf table
+
+-- a rule's record, by the types byte
+pub record Recorded (s : Sizes) (byte : ℕ) (rule : List ℕ) : Type 0 where
+  pub small : byte < 256
+  pub types : s .types ≡ typesIn byte
+  pub long : length rule ≡ ruleBytes byte
+  pub divides : Divides byte rule
 
 -- ---- the ends of the rules below k
 pub record EndsAt (T : ℕ) (table ends : List ℕ) (r : ℕ) : Type 0 where
@@ -34,7 +42,7 @@ pub record LeastsTo (s : Sizes) (t : ℕ) (table leasts : List ℕ) (k : ℕ) : 
   pub at : (r m : ℕ) → r < k → m < s .types → keptLeast leasts r m ≡ leastAt table r m (s .correct + s .faulty) t
 
 -- those of rule k for the types below j, by its record, beside what was kept before
-pub record RowTo (s : Sizes) (t : ℕ) (rule old new : List ℕ) (k j : ℕ) : Type 0 where
+pub record RowTo (s : Sizes) (byte t : ℕ) (rule old new : List ℕ) (k j : ℕ) : Type 0 where
   pub long : length new ≡ keptRoom
   pub before : (i : ℕ) → i < k * 4 → getD new i 0 ≡ getD old i 0
-  pub row : (m : ℕ) → m < j → keptLeast new k m ≡ leastOf (thresholdIn (coefficientsOf rule m) (s .correct + s .faulty) t)
+  pub row : (m : ℕ) → m < j → keptLeast new k m ≡ leastOf (thresholdOf (weightsOf byte rule m) (s .correct + s .faulty) t)

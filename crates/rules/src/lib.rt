@@ -4,12 +4,13 @@ ghost use mathlib.Core.Path.{_≡_};
 ghost use Prim.Native.Nat.{_+_, _*_, _≤_, _<_};
 ghost use lib.ListN.{length, set};
 ghost use Rattle.senders.specs.Set.{mostTolerated};
-ghost use Rattle.threshold.specs.Threshold.{thresholdIn, leastOf};
-ghost use Rattle.table.specs.Table.{fromOf, toOf, ruleOf, endBytes, typeBytes, coefficientsOf};
+ghost use Rattle.threshold.specs.Threshold.{thresholdOf, leastOf};
+ghost use Rattle.layout.specs.Layout.{endBytes, weightsOf};
+ghost use Rattle.table.specs.Table.{fromOf, toOf, ruleOf};
 ghost use Rattle.words.specs.Facts.{Bounded};
 ghost use Rattle.rules.specs.Design.{sendsOf, designOf};
 ghost use Rattle.rules.specs.Kept.{keptRoom, keptFrom, keptTo, keptSends, keptLeast, Kept};
-ghost use Rattle.rules.specs.Facts.{Suits, RowTo};
+ghost use Rattle.rules.specs.Facts.{Suits, Recorded, RowTo};
 use words::Sizes;
 
 // The bytes, and the numbers, that keep the rules of any table: 64 rules, four each.
@@ -63,12 +64,13 @@ pub fn keep(table: &[u8], t: usize, s: Sizes, ends: &mut [u8], leasts: &mut [u16
     ensures { λ x. ⌜ Kept (designOf s t (now (table .entry))) s (now (ends .exit)) (now (leasts .exit)) ⌝ }
 {
     let states = table::states(table);
+    let byte = table::types_byte(table);
     let rules = s.rules;
     let mut r = 0;
     while r < rules {
-        let rule = table::rule(table, states, s.types, r);
+        let rule = table::rule(table, states, byte, r);
         keep_ends(table, rule, s, ends, r);
-        keep_leasts(rule, t, s, leasts, r);
+        keep_leasts(rule, byte, t, s, leasts, r);
         r += 1;
     }
 }
@@ -78,8 +80,8 @@ fn keep_ends(table: &[u8], rule: &[u8], s: Sizes, ends: &mut [u8], r: usize)
     requires { ⌜ (Suits s (now table)) × (r < s .rules) × (now rule ≡ ruleOf (now table) r) × (endBytes ≤ length (now rule)) × (length (now ends) ≡ keptRoom) ⌝ }
     ensures { λ x. ⌜ now (ends .exit) ≡ set (set (set (now (ends .entry)) (r * 4) (fromOf (now (table .entry)) r)) (r * 4 + 1) (toOf (now (table .entry)) r)) (r * 4 + 2) (sendsOf (s .types) (now (table .entry)) r) ⌝ }
 {
-    let from = table::leaves(rule);
-    let to = table::enters(rule);
+    let from = layout::leaves(rule);
+    let to = layout::enters(rule);
     let sends = sent_by(table, s, r, from, to);
     let at = r * 4;
     ends[at] = from as u8;
@@ -98,23 +100,23 @@ fn sent_by(table: &[u8], s: Sizes, r: usize, from: usize, to: usize) -> usize
 }
 
 // For each type, the least count that meets the threshold in the record of rule r.
-fn keep_leasts(rule: &[u8], t: usize, s: Sizes, leasts: &mut [u16], r: usize)
-    requires { ⌜ (Bounded s) × (t ≤ mostTolerated) × (r < s .rules) × (endBytes + typeBytes * s .types ≤ length (now rule)) × (length (now leasts) ≡ keptRoom) ⌝ }
-    ensures { λ x. ⌜ RowTo s t (now (rule .entry)) (now (leasts .entry)) (now (leasts .exit)) r (s .types) ⌝ }
+fn keep_leasts(rule: &[u8], byte: usize, t: usize, s: Sizes, leasts: &mut [u16], r: usize)
+    requires { ⌜ (Bounded s) × (t ≤ mostTolerated) × (r < s .rules) × (Recorded s byte (now rule)) × (length (now leasts) ≡ keptRoom) ⌝ }
+    ensures { λ x. ⌜ RowTo s byte t (now (rule .entry)) (now (leasts .entry)) (now (leasts .exit)) r (s .types) ⌝ }
 {
     let types = s.types;
     let mut m = 0;
     while m < types {
-        leasts[r * 4 + m] = least_in(rule, m, t, s);
+        leasts[r * 4 + m] = least_in(rule, byte, m, t, s);
         m += 1;
     }
 }
 
 // The least count of type m that meets the threshold in a rule's record.
-fn least_in(rule: &[u8], m: usize, t: usize, s: Sizes) -> u16
-    requires { ⌜ (Bounded s) × (t ≤ mostTolerated) × (m < 4) × (endBytes + typeBytes * (m + 1) ≤ length (now rule)) ⌝ }
-    ensures { λ x. ⌜ x ≡ leastOf (thresholdIn (coefficientsOf (now (rule .entry)) m) (s .correct + s .faulty) t) ⌝ }
+fn least_in(rule: &[u8], byte: usize, m: usize, t: usize, s: Sizes) -> u16
+    requires { ⌜ (Bounded s) × (t ≤ mostTolerated) × (m < s .types) × (Recorded s byte (now rule)) ⌝ }
+    ensures { λ x. ⌜ x ≡ leastOf (thresholdOf (weightsOf byte (now (rule .entry)) m) (s .correct + s .faulty) t) ⌝ }
 {
     let n = s.correct + s.faulty;
-    threshold::least_of(table::coefficients(rule, m), n as u64, t as u64)
+    threshold::least(layout::weights(rule, byte, m), n as u64, t as u64)
 }

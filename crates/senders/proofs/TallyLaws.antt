@@ -148,6 +148,13 @@ module _ (P : ℕ → Bool) where
   pub some-never : {i n m : ℕ} → some i P ≡ false → i ≤ n → n ≤ i → n ≡ m → false ≡ some m P
   some-never {i} {n} {m} e p h w = let r : m ≡ i = omega arith in rw (r, e)
 
+  pub some-not : (n : ℕ) → some n P ≡ false → (i : ℕ) → i < n → P i ≡ false
+  some-not n h i l = go (P i) refl
+    where
+      go : (b : Bool) → P i ≡ b → P i ≡ false
+      go true e = absurd (false≢true (sym h ∙ some-at i n l e))
+      go false e = e
+
 pub every-each : (k : ℕ) (P : ℕ → Bool) → every k P ≡ true → (i : ℕ) → i < k → P i ≡ true
 unfolding every
 every-each zero P h i l = absurd (not-suc-le-zero l)

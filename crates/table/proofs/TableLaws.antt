@@ -15,8 +15,10 @@ use Rattle.fault.specs.Fault.{refused, _if_else_, firstFault}
 use Rattle.fault.proofs.FaultLaws.{if-passed, then-clean, first-clean, Clean, if-most, Within, check-within, then-within, first-within}
 use Rattle.fault.proofs.TestLaws.{or-none, inside, same}
 use Rattle.fault.specs.Bytes.{trailerBytes}
-use Rattle.table.specs.Table.{stateDistance, ruleDistance, statesOf, rulesOf, typesOf, factorOf, mostStates, mostRules, mostTypes, mostFactor, flagsOf, initialOf, sentOf, ruleBytes, ruleSize, mostRecords, mostTable, ruleAt, fromOf, stateBytes, recordsBytes}
-use Rattle.table.specs.Refusals.{tooShort, countsOutside, countsOff, distancesOff, stateOff, noInitial, noState, forgets, sendsTwo, stateFault, ruleFault, recordsFault, tableFault}
+use Rattle.table.specs.Table.{stateDistance, ruleDistance, statesOf, rulesOf, typesByte, typesOf, factorOf, mostStates, mostRules, mostFactor, flagsOf, initialOf, sentOf, ruleSize, mostRecords, mostTable, ruleAt, fromOf, ruleOf, stateBytes, recordsBytes}
+use Rattle.table.specs.Refusals.{tooShort, countsOutside, countsOff, distancesOff, stateOff, noInitial, noState, divisorOff, forgets, sendsTwo, stateFault, ruleFault, recordsFault, tableFault}
+use Rattle.layout.specs.Layout.{mostTypes, typesIn, ruleBytes}
+use Rattle.layout.proofs.LayoutLaws.{weights-few, divides}
 use Rattle.table.specs.Facts.{CountsFit, Sized, StateFits, RuleEnds, RuleFits, WellFormed}
 
 pub long : (s : List ℕ) → tooShort s ≡ false → trailerBytes ≤ length s
@@ -48,8 +50,8 @@ pub sized : (s : List ℕ) → tooShort s ≡ false → countsOff s ≡ false �
 unfolding countsOff distancesOff
 sized s a b d =
     let C = counts-by (statesOf s) (rulesOf s) (typesOf s) (factorOf s) refl b in
-    let d₁ = or-none (stateDistance s differs recordsBytes (statesOf s) (rulesOf s) (typesOf s) || ruleDistance s differs rulesOf s * ruleSize s) _ d in
-    let d₂ = or-none (stateDistance s differs recordsBytes (statesOf s) (rulesOf s) (typesOf s)) _ (d₁ .0) in
+    let d₁ = or-none (stateDistance s differs recordsBytes (statesOf s) (rulesOf s) (typesByte s) || ruleDistance s differs rulesOf s * ruleSize s) _ d in
+    let d₂ = or-none (stateDistance s differs recordsBytes (statesOf s) (rulesOf s) (typesByte s)) _ (d₁ .0) in
     record {
       long = long s a;
       some-state = C .some-state;
@@ -75,10 +77,10 @@ rule-inside s z r h =
     omega (arith, z .whole, add-mul r 1 (ruleSize s), one-mul (ruleSize s), mul-le-mul-right {m = r + 1} {n = rulesOf s} (ruleSize s) (omega arith))
 
 -- `rule_at`, from what it has in hand
-module _ {a b p : ℕ} (s : List ℕ) (k : ℕ) (e : a ≡ statesOf s) (f : b ≡ typesOf s) (g : p ≡ k * ruleBytes b) where
+module _ {a b l p : ℕ} (s : List ℕ) (k : ℕ) (e : a ≡ statesOf s) (f : b ≡ typesByte s) (w : l ≡ ruleBytes b) (g : p ≡ k * l) where
   pub rule-at-is : stateBytes * a + p ≡ ruleAt s k
   unfolding ruleAt
-  rule-at-is = rw (g, e, f)
+  rule-at-is = rw (g, w, e, f)
 
   pub rule-at-inside : Sized s → k < rulesOf s → stateBytes * a + p + ruleSize s + trailerBytes ≤ length s
   rule-at-inside z h = rw rule-at-is (rule-inside s z k h)
@@ -118,13 +120,15 @@ rule-ends s r e f =
     record { from = leb-false _ _ (a .0); to = leb-false _ _ (a .1) }
 
 pub rule-fits : (s : List ℕ) (r : ℕ) → ruleFault s r ≡ 0 → RuleFits s r
-unfolding ruleFault forgets sendsTwo
+unfolding ruleFault divisorOff forgets sendsTwo
 rule-fits s r h =
     let a = none 6 _ _ (λ z. omega arith) h in
-    let b = none 7 _ _ (λ z. omega arith) (a .1) in
+    let e = none 9 _ _ (λ z. omega arith) (a .1) in
+    let b = none 7 _ _ (λ z. omega arith) (e .1) in
     let d = none 8 _ 0 (λ z. omega arith) (b .1) in
     record {
       ends = rule-ends s r refl (a .0);
+      divides = divides (typesByte s) (ruleOf s r) (e .0);
       keeps = count-zero (typesOf s) _ (le-zero (ltb-false 0 _ (b .0)));
       one-new = ltb-false 1 _ (d .0);
     }
@@ -155,8 +159,8 @@ well-formed s h =
     }
 
 -- ---- its records are few bytes
-pub records-short : (n m T : ℕ) → n ≤ mostStates → m ≤ mostRules → T ≤ mostTypes → recordsBytes n m T ≤ mostRecords
-records-short n m T a b c = omega (arith, mul-le-mul-right {m = m} {n = mostRules} (ruleBytes T) b)
+pub records-short : (n m byte : ℕ) → n ≤ mostStates → m ≤ mostRules → typesIn byte ≤ mostTypes → recordsBytes n m byte ≤ mostRecords
+records-short n m byte a b c = omega (arith, mul-le-mul-right {m = m} {n = mostRules} (ruleBytes byte) b, weights-few byte mostTypes c)
 
 -- ---- what a table is refused for is at most 14, its place at most 64
 module _ (s : List ℕ) where
@@ -166,7 +170,7 @@ module _ (s : List ℕ) where
 
   rule-most : (r : ℕ) → ruleFault s r ≤ 14
   unfolding ruleFault
-  rule-most r = if-most _ (omega arith) (if-most _ (omega arith) (if-most _ (omega arith) (omega arith)))
+  rule-most r = if-most _ (omega arith) (if-most _ (omega arith) (if-most _ (omega arith) (if-most _ (omega arith) (omega arith))))
 
   records-within : Sized s → Within 14 64 (recordsFault s)
   unfolding recordsFault
@@ -179,4 +183,4 @@ module _ (s : List ℕ) where
   table-within = check-within _ (omega arith) (λ a. check-within _ (omega arith) (λ b. check-within _ (omega arith) (λ d. records-within (sized s a b d))))
 
   pub table-short : Sized s → length s ≤ mostTable
-  table-short z = omega (arith, z .whole, records-short (statesOf s) (rulesOf s) (typesOf s) (z .few-states) (z .few-rules) (z .few-types))
+  table-short z = omega (arith, z .whole, records-short (statesOf s) (rulesOf s) (typesByte s) (z .few-states) (z .few-rules) (z .few-types))

@@ -7,7 +7,8 @@ use lib.ListN.{length}
 use Rattle.senders.specs.Tally.{count, some}
 use Rattle.senders.specs.Set.{missing}
 use Rattle.fault.specs.Bytes.{trailerBytes}
-use Rattle.table.specs.Table.{statesOf, rulesOf, typesOf, factorOf, mostStates, mostRules, mostTypes, mostFactor, flagsOf, initialOf, sentOf, recordsBytes, fromOf, toOf}
+use Rattle.table.specs.Table.{statesOf, rulesOf, typesOf, factorOf, mostStates, mostRules, mostFactor, flagsOf, initialOf, sentOf, typesByte, recordsBytes, fromOf, toOf, ruleOf}
+use Rattle.layout.specs.Layout.{mostTypes, Divides}
 
 -- counts that a table may have (refusal 2)
 pub record CountsFit (states rules types factor : ℕ) : Type 0 where
@@ -31,7 +32,7 @@ pub record Sized (s : List ℕ) : Type 0 where
   pub few-types : typesOf s ≤ mostTypes
   pub some-factor : 1 ≤ factorOf s
   pub few-factor : factorOf s ≤ mostFactor
-  pub whole : length s ≡ recordsBytes (statesOf s) (rulesOf s) (typesOf s) + trailerBytes
+  pub whole : length s ≡ recordsBytes (statesOf s) (rulesOf s) (typesByte s) + trailerBytes
 
 -- a state (refusal 4)
 pub record StateFits (s : List ℕ) (i : ℕ) : Type 0 where
@@ -44,9 +45,10 @@ pub record RuleEnds (s : List ℕ) (r : ℕ) : Type 0 where
   pub from : fromOf s r < statesOf s
   pub to : toOf s r < statesOf s
 
--- a rule (refusals 6 to 8): the paper's assumptions A1, nothing is forgotten, and A2, at most one new type
+-- a rule (refusals 6 to 9): the paper's assumptions A1, nothing is forgotten, and A2, at most one new type
 pub record RuleFits (s : List ℕ) (r : ℕ) : Type 0 where
   pub ends : RuleEnds s r
+  pub divides : Divides (typesByte s) (ruleOf s r)
   pub keeps : (m : ℕ) → m < typesOf s → missing (sentOf s (fromOf s r)) (sentOf s (toOf s r)) m ≡ false
   pub one-new : count (typesOf s) (missing (sentOf s (toOf s r)) (sentOf s (fromOf s r))) ≤ 1
 

@@ -1,37 +1,30 @@
-// The table part: refusals 1 to 8, and the views that stepping needs.
+// The table part: refusals 1 to 9, and the views that stepping needs.
 ghost use mathlib.Core.Path.{_≡_};
 ghost use Prim.Native.Nat.{_+_, _*_, _≤_, _<_};
 ghost use lib.ListN.{length};
-ghost use Rattle.fault.specs.Bytes.{byteAt, trailerBytes};
+ghost use Rattle.fault.specs.Bytes.{trailerBytes};
 ghost use Rattle.senders.specs.Tally.{count};
 ghost use Rattle.senders.specs.Set.{missing};
 ghost use Rattle.fault.specs.Fault.{firstFault};
-ghost use Rattle.table.specs.Table.{statesOf, rulesOf, typesOf, factorOf, flagsOf, initialOf, sentOf, typeBytes, ruleSize, ruleAt, fromOf, toOf, ruleOf, coefficientsOf, endBytes};
-ghost use Rattle.table.specs.Refusals.{tooShort, countsOutside, countsOff, distancesOff, stateOff, noInitial, noState, sendsTwo, stateFault, ruleFault, recordsFault, tableFault};
+ghost use Rattle.table.specs.Table.{statesOf, rulesOf, typesByte, typesOf, factorOf, flagsOf, initialOf, sentOf, ruleSize, ruleAt, fromOf, toOf, ruleOf};
+ghost use Rattle.table.specs.Refusals.{tooShort, countsOutside, countsOff, distancesOff, stateOff, noInitial, noState, divisorOff, sendsTwo, stateFault, ruleFault, recordsFault, tableFault};
 ghost use Rattle.table.specs.Refusals as refusals;
 ghost use Rattle.table.specs.Facts.{Sized, RuleEnds};
 use fault::Verdict;
 
-// The most that each of the four counts may be; the least is 1.
+// The most that the counts but T may be; the least is 1.
 pub const MOST_STATES: usize = 16;
 
 pub const MOST_RULES: usize = 64;
-
-pub const MOST_TYPES: usize = 4;
 
 pub const MOST_FACTOR: usize = 8;
 
 // How many bytes a state has: its flags and the mask of types sent.
 pub const STATE_BYTES: usize = 2;
 
-// How many bytes a rule has for its ends, and for each type: a, b, d.
-pub const END_BYTES: usize = 2;
-
-pub const TYPE_BYTES: usize = 3;
-
 // The most bytes that a table has: its states, its rules and a trailer.
 pub const MOST_BYTES: usize = STATE_BYTES * MOST_STATES
-    + MOST_RULES * (END_BYTES + TYPE_BYTES * MOST_TYPES)
+    + MOST_RULES * layout::MOST_RULE_BYTES
     + fault::TRAILER_BYTES;
 
 // The table's first refusal, for every byte string.
@@ -80,11 +73,19 @@ pub fn rules(s: &[u8]) -> usize
     fault::trailer_byte(s, 5)
 }
 
+// The number of types, and 16 more in the second edition.
+pub fn types_byte(s: &[u8]) -> usize
+    requires { ⌜ trailerBytes ≤ length (now s) ⌝ }
+    ensures { λ r. ⌜ (r ≡ typesByte (now (s .entry))) × (r < 256) ⌝ }
+{
+    fault::trailer_byte(s, 6)
+}
+
 pub fn types(s: &[u8]) -> usize
     requires { ⌜ trailerBytes ≤ length (now s) ⌝ }
     ensures { λ r. ⌜ (r ≡ typesOf (now (s .entry))) × (r < 256) ⌝ }
 {
-    fault::trailer_byte(s, 6)
+    layout::types_in(types_byte(s))
 }
 
 pub fn factor(s: &[u8]) -> usize
@@ -115,7 +116,7 @@ pub fn counts_outside(states: usize, rules: usize, types: usize, factor: usize) 
 {
     fault::outside(1, MOST_STATES, states)
         | fault::outside(1, MOST_RULES, rules)
-        | fault::outside(1, MOST_TYPES, types)
+        | fault::outside(1, layout::MOST_TYPES, types)
         | fault::outside(1, MOST_FACTOR, factor)
 }
 
@@ -124,7 +125,7 @@ fn distances_off(s: &[u8]) -> bool
     requires { ⌜ trailerBytes ≤ length (now s) ⌝ }
     ensures { λ r. ⌜ r ≡ distancesOff (now (s .entry)) ⌝ }
 {
-    let rules = fault::times(rules(s), END_BYTES + TYPE_BYTES * types(s));
+    let rules = fault::times(rules(s), layout::rule_bytes(types_byte(s)));
     let back = fault::trailer_u16(s, 0);
     (back != STATE_BYTES * states(s) + rules)
         | (fault::trailer_u16(s, 2) != rules)
@@ -215,15 +216,15 @@ pub fn rule_at(s: &[u8], k: usize) -> usize
     requires { ⌜ (Sized (now s)) × (k < rulesOf (now s)) ⌝ }
     ensures { λ r. ⌜ (r ≡ ruleAt (now (s .entry)) k) × (r + ruleSize (now (s .entry)) + trailerBytes ≤ length (now (s .entry))) ⌝ }
 {
-    place_of(s, states(s), types(s), k)
+    place_of(s, states(s), types_byte(s), k)
 }
 
-// The same, by the numbers of states and types that were read before.
-fn place_of(s: &[u8], states: usize, types: usize, k: usize) -> usize
-    requires { ⌜ (Sized (now s)) × (states ≡ statesOf (now s)) × (types ≡ typesOf (now s)) × (k < rulesOf (now s)) ⌝ }
+// The same, by the number of states and the types byte that were read before.
+fn place_of(s: &[u8], states: usize, byte: usize, k: usize) -> usize
+    requires { ⌜ (Sized (now s)) × (states ≡ statesOf (now s)) × (byte ≡ typesByte (now s)) × (byte < 256) × (k < rulesOf (now s)) ⌝ }
     ensures { λ r. ⌜ (r ≡ ruleAt (now (s .entry)) k) × (r + ruleSize (now (s .entry)) + trailerBytes ≤ length (now (s .entry))) ⌝ }
 {
-    STATE_BYTES * states + fault::times(k, END_BYTES + TYPE_BYTES * types)
+    STATE_BYTES * states + fault::times(k, layout::rule_bytes(byte))
 }
 
 pub fn from(s: &[u8], k: usize) -> usize
@@ -240,40 +241,14 @@ pub fn to(s: &[u8], k: usize) -> usize
     fault::byte_at(s, rule_at(s, k) + 1)
 }
 
-// The record of a rule, as a part, by the numbers of states and types: a loop over the rules reads them once. No byte is copied.
-pub fn rule(s: &[u8], states: usize, types: usize, k: usize) -> &[u8]
-    requires { ⌜ (Sized (now s)) × (states ≡ statesOf (now s)) × (types ≡ typesOf (now s)) × (k < rulesOf (now s)) ⌝ }
+// The record of a rule, as a part, by the number of states and the types byte: a loop over the rules reads them once. No byte is copied.
+pub fn rule(s: &[u8], states: usize, byte: usize, k: usize) -> &[u8]
+    requires { ⌜ (Sized (now s)) × (states ≡ statesOf (now s)) × (byte ≡ typesByte (now s)) × (byte < 256) × (k < rulesOf (now s)) ⌝ }
     ensures { λ r. ⌜ (now r ≡ ruleOf (now (s .entry)) k) × (length (now r) ≡ ruleSize (now (s .entry))) ⌝ }
 {
-    let at = place_of(s, states, types, k);
-    let end = at + END_BYTES + TYPE_BYTES * types;
+    let at = place_of(s, states, byte, k);
+    let end = at + layout::rule_bytes(byte);
     &s[at..end]
-}
-
-// Of a rule's record, the state that it leaves.
-pub fn leaves(rule: &[u8]) -> usize
-    requires { ⌜ endBytes ≤ length (now rule) ⌝ }
-    ensures { λ r. ⌜ (r ≡ byteAt (now (rule .entry)) 0) × (r < 256) ⌝ }
-{
-    fault::byte_at(rule, 0)
-}
-
-// And the state that it enters.
-pub fn enters(rule: &[u8]) -> usize
-    requires { ⌜ endBytes ≤ length (now rule) ⌝ }
-    ensures { λ r. ⌜ (r ≡ byteAt (now (rule .entry)) 1) × (r < 256) ⌝ }
-{
-    fault::byte_at(rule, 1)
-}
-
-// Of a rule's record, the bytes for type m. No byte is copied.
-pub fn coefficients(rule: &[u8], m: usize) -> &[u8]
-    requires { ⌜ endBytes + typeBytes * (m + 1) ≤ length (now rule) ⌝ }
-    ensures { λ r. ⌜ (now r ≡ coefficientsOf (now (rule .entry)) m) × (length (now r) ≡ typeBytes) ⌝ }
-{
-    let at = END_BYTES + TYPE_BYTES * m;
-    let end = at + TYPE_BYTES;
-    &rule[at..end]
 }
 
 // 6
@@ -283,6 +258,15 @@ fn no_state(s: &[u8], k: usize) -> bool
 {
     let n = states(s);
     (n <= from(s, k)) | (n <= to(s, k))
+}
+
+// 9
+fn divisor_off(s: &[u8], k: usize) -> bool
+    requires { ⌜ (Sized (now s)) × (k < rulesOf (now s)) ⌝ }
+    ensures { λ r. ⌜ r ≡ divisorOff (now (s .entry)) k ⌝ }
+{
+    let byte = types_byte(s);
+    layout::divisor_outside(rule(s, states(s), byte, k), byte)
 }
 
 // How many types state a has sent and state b has not.
@@ -317,6 +301,9 @@ fn rule_fault(s: &[u8], k: usize) -> usize
 {
     if no_state(s, k) {
         return 6;
+    }
+    if divisor_off(s, k) {
+        return 9;
     }
     if forgets(s, k) {
         return 7;

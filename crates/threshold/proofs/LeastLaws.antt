@@ -27,7 +27,7 @@ pub least-natural : (z : ℤ) → ltZ z (pos 0) ≡ false → mag z ≤ 20000 �
 least-natural (pos k) h l = (tt, record { fits = omega arith })
 least-natural (negsuc k) h l = absurd (true≢false h)
 
-pub least-size : (z : ℤ) → ltZ z (pos 0) ≡ false → natAbs z ≡ leastOf z
+pub least-size : (z : ℤ) → ltZ z (pos 0) ≡ false → mag z ≤ 20000 → (natAbs z ≡ leastOf z) × (natAbs z ≤ 20000)
 unfolding leastOf
-least-size (pos k) h = refl
-least-size (negsuc k) h = absurd (true≢false h)
+least-size (pos k) h l = (refl, l)
+least-size (negsuc k) h l = absurd (true≢false h)

@@ -1,2 +1,3 @@
 pub mod LeastLaws
+pub mod QuotientLaws
 pub mod SizeLaws

@@ -1,26 +1,33 @@
-// Thresholds: a·n + b·t + d, as the least count that meets one. Signed numbers stay inside this crate.
+// Thresholds: (a·n + b·t + d)/e rounded up, as the least count that meets one. Signed numbers stay inside this crate.
 ghost use mathlib.Core.Path.{_≡_};
-ghost use Prim.Native.Nat.{_+_, _≤_, _<_};
-ghost use lib.ListN.{length};
+ghost use Prim.Native.Nat.{_+_, _-_, _/_, _≤_, _<_};
 ghost use lib.IntN.{pos, _+ℤ_, _*ℤ_};
 ghost use lib.Signed.{mag};
 ghost use Rattle.senders.specs.Set.{mostBoards, mostTolerated};
-ghost use Rattle.threshold.specs.Threshold.{signedByte, thresholdOf, thresholdIn, leastOf};
+ghost use Rattle.threshold.specs.Threshold.{signedByte, sumOf, thresholdOf, leastOf};
 
-// The least count that meets the threshold of a part that holds a, b and d.
-pub fn least_of(part: &[u8], n: u64, t: u64) -> u16
-    requires { ⌜ (2 < length (now part)) × (n ≤ mostBoards) × (t ≤ mostTolerated) ⌝ }
-    ensures { λ r. ⌜ r ≡ leastOf (thresholdIn (now (part .entry)) n t) ⌝ }
-{
-    least(part[0], part[1], part[2], n, t)
+// What a rule says of one type: three signed bytes and a divisor.
+pub struct Weights {
+    pub a: u8,
+    pub b: u8,
+    pub d: u8,
+    pub e: u8,
 }
 
-// The least count that meets a·n + b·t + d. Exact from -16,384 to 16,256, the ends for n = 64 and t = 63.
-pub fn least(a: u8, b: u8, d: u8, n: u64, t: u64) -> u16
-    requires { ⌜ (n ≤ mostBoards) × (t ≤ mostTolerated) ⌝ }
-    ensures { λ r. ⌜ r ≡ leastOf (thresholdOf a b d n t) ⌝ }
+// The least count that meets the threshold.
+pub fn least(w: Weights, n: u64, t: u64) -> u16
+    requires { ⌜ (1 ≤ w .e) × (n ≤ mostBoards) × (t ≤ mostTolerated) ⌝ }
+    ensures { λ r. ⌜ r ≡ leastOf (thresholdOf w n t) ⌝ }
 {
-    at_least_zero(plus(plus(scaled(a, n), scaled(b, t)), signed(d)))
+    divided(at_least_zero(sum(w, n, t)), w.e)
+}
+
+// a·n + b·t + d. Exact from -16,384 to 16,256, the ends for n = 64 and t = 63.
+fn sum(w: Weights, n: u64, t: u64) -> i64
+    requires { ⌜ (n ≤ mostBoards) × (t ≤ mostTolerated) ⌝ }
+    ensures { λ r. ⌜ (r ≡ sumOf w n t) × (mag r ≤ 20000) ⌝ }
+{
+    plus(plus(scaled(w.a, n), scaled(w.b, t)), signed(w.d))
 }
 
 // x·n for a coefficient x. Its bound is stated, so that a sum of such needs no law of products.
@@ -49,7 +56,16 @@ fn plus(y: i64, z: i64) -> i64
 // A small number, or 0 in place of a negative one.
 fn at_least_zero(z: i64) -> u16
     requires { ⌜ mag z ≤ 20000 ⌝ }
-    ensures { λ r. ⌜ r ≡ leastOf z ⌝ }
+    ensures { λ r. ⌜ (r ≡ leastOf z) × (r ≤ 20000) ⌝ }
 {
     if z < 0 { 0 } else { z as u16 }
+}
+
+// A small number divided by e, rounded up.
+fn divided(x: u16, e: u8) -> u16
+    requires { ⌜ (x ≤ 20000) × (1 ≤ e) ⌝ }
+    ensures { λ r. ⌜ r ≡ (x + (e - 1)) / e ⌝ }
+{
+    let e = e as u16;
+    (x + (e - 1)) / e
 }

@@ -2,7 +2,7 @@
 //! long as some drawing goes on so. It calls nothing that it judges.
 
 use crate::bench::Draws;
-use crate::model::{nothing_done, read_table, refused, Model, Rule, Table};
+use crate::model::{nothing_done, read_table, refused, Coefficients, Edition, Model, Rule, Table};
 use macaroosh::calls::Answer;
 use macaroosh::Refusal;
 use std::ops::RangeInclusive;
@@ -10,8 +10,8 @@ use std::ops::RangeInclusive;
 /// What a text draws, by its records; only some of it is a table.
 #[derive(Clone, Debug)]
 pub struct Drawing {
-    /// T.
-    pub types: usize,
+    /// The types byte, which is what `T=` shows.
+    pub types_byte: usize,
     /// k.
     pub factor: usize,
     /// Flags and sent mask of each state.
@@ -25,23 +25,33 @@ impl Drawing {
     pub fn of(table: &Table) -> Drawing {
         let flags = |initial: bool, accepting: bool| u8::from(initial) + 2 * u8::from(accepting);
         Drawing {
-            types: table.types,
+            types_byte: table.edition.types_byte(table.types),
             factor: table.factor as usize,
             states: table.states.iter().map(|s| [flags(s.initial, s.accepting), s.sent]).collect(),
             rules: table.rules.clone(),
         }
     }
 
-    /// The bytes of the records in the order of the text, then the trailer: distances, counts, T, k.
+    /// The edition and the number of types that its types byte tells.
+    pub fn edition(&self) -> (Edition, usize) {
+        Edition::of(self.types_byte)
+    }
+
+    /// The bytes of the records in the order of the text, then the trailer: distances, counts, types byte, k.
     pub fn bytes(&self) -> Vec<u8> {
         let states = self.states.concat();
         let mut rules = Vec::new();
         for rule in &self.rules {
             rules.extend([rule.from as u8, rule.to as u8]);
-            rules.extend(rule.coefficients.concat().iter().map(|&number| number as u8));
+            for Coefficients { a, b, d, e } in &rule.coefficients {
+                rules.extend([*a as u8, *b as u8, *d as u8]);
+                if self.edition().0 == Edition::Second {
+                    rules.push(*e);
+                }
+            }
         }
         let distances = [states.len() + rules.len(), rules.len()].map(|distance| (distance as u16).to_le_bytes());
-        let numbers = [self.states.len(), self.rules.len(), self.types, self.factor].map(|number| number as u8);
+        let numbers = [self.states.len(), self.rules.len(), self.types_byte, self.factor].map(|number| number as u8);
         [&states, &rules, &distances.concat(), &numbers[..]].concat()
     }
 }
@@ -50,15 +60,28 @@ impl Drawing {
 pub trait Text {
     /// The text as it is written.
     fn text(&self, drawing: &Drawing) -> String {
-        let mut text = format!("digraph t {{\nT={}; k={};\n", drawing.types, drawing.factor);
+        let mut text = format!("digraph t {{\nT={}; k={};\n", drawing.types_byte, drawing.factor);
         for (i, [flags, sent]) in drawing.states.iter().enumerate() {
             text += &format!("s{i} [label=\"{flags} {sent}\"];\n");
         }
         for Rule { from, to, coefficients } in &drawing.rules {
-            let groups: Vec<String> = coefficients.iter().map(|[a, b, d]| format!("{a} {b} {d}")).collect();
+            let groups: Vec<String> = coefficients.iter().map(|group| self.group(drawing.edition().0, group)).collect();
             text += &format!("s{from} -> s{to} [label=\"{}\"];\n", groups.join(", "));
         }
         text + "}\n"
+    }
+
+    /// The numbers of one type in a rule's label.
+    fn group(&self, edition: Edition, Coefficients { a, b, d, e }: &Coefficients) -> String {
+        match edition {
+            Edition::First => format!("{a} {b} {d}"),
+            Edition::Second => format!("{a} {b} {d} {e}"),
+        }
+    }
+
+    /// What an e may be as form.
+    fn divisors(&self) -> RangeInclusive<i32> {
+        BYTE
     }
 
     /// Whether a byte may be added between two tokens.
@@ -78,21 +101,27 @@ pub trait Text {
         name == states && rules == 0
     }
 
-    /// Whether a table has such counts: states, rules, T, k.
-    fn counts_fit(&self, [states, rules, types, factor]: [usize; 4]) -> bool {
-        (1..=16).contains(&states) && (1..=64).contains(&rules) && (1..=4).contains(&types) && (1..=8).contains(&factor)
+    /// Whether a table has such counts: states, rules, types byte, k.
+    fn counts_fit(&self, [states, rules, types_byte, factor]: [usize; 4]) -> bool {
+        let types = matches!(types_byte, 1..=4 | 17..=20);
+        (1..=16).contains(&states) && (1..=64).contains(&rules) && types && (1..=8).contains(&factor)
     }
 
-    /// The table part that a text draws: 60, then 2, then 4 to 8 as for any table part.
+    /// A table part, to be drawn or drawn already, or its refusal.
+    fn read_part(&self, part: &[u8]) -> Result<Table, Refusal> {
+        read_table(part)
+    }
+
+    /// The table part that a text draws: 60, then 2, then 4 to 9.
     fn table(&self, text: &[u8]) -> Result<Vec<u8>, Refusal> {
         let mut reader = Reader { form: self, text, at: 0 };
         // Places from 2^24 - 1 on are given as that, since an answer has 24 bits for them.
         let drawing = reader.drawing().map_err(|Stopped| refused(60, reader.at.min((1 << 24) - 1)))?;
-        if !self.counts_fit([drawing.states.len(), drawing.rules.len(), drawing.types, drawing.factor]) {
+        if !self.counts_fit([drawing.states.len(), drawing.rules.len(), drawing.types_byte, drawing.factor]) {
             return Err(refused(2, 0));
         }
         let part = drawing.bytes();
-        read_table(&part).map(|_| part)
+        self.read_part(&part).map(|_| part)
     }
 }
 
@@ -100,7 +129,7 @@ impl Text for Model {}
 
 impl<T: Text> Draws for T {
     fn draw(&self, table: &[u8], out: &mut [u8]) -> Answer {
-        match read_table(table) {
+        match self.read_part(table) {
             Ok(table) => written(self.text(&Drawing::of(&table)).as_bytes(), out),
             Err(refusal) => nothing_done(refusal),
         }
@@ -143,11 +172,11 @@ impl<T: Text + ?Sized> Reader<'_, T> {
         self.token("digraph")?;
         self.blank()?;
         self.tokens(&["t", "{", "T", "="])?;
-        let types = self.number_token()?;
+        let types_byte = self.number_token()?;
         self.tokens(&[";", "k", "="])?;
         let factor = self.number_token()?;
         self.token(";")?;
-        let mut drawing = Drawing { types, factor, states: Vec::new(), rules: Vec::new() };
+        let mut drawing = Drawing { types_byte, factor, states: Vec::new(), rules: Vec::new() };
         while !self.next_is(b'}') {
             self.line(&mut drawing)?;
         }
@@ -171,7 +200,7 @@ impl<T: Text + ?Sized> Reader<'_, T> {
         } else {
             self.token("->")?;
             let to = self.name()?;
-            let coefficients = self.label(|reader| reader.groups(drawing.types))?;
+            let coefficients = self.label(|reader| reader.groups(drawing.edition()))?;
             drawing.rules.push(Rule { from: name, to, coefficients });
         }
         Ok(())
@@ -191,18 +220,28 @@ impl<T: Text + ?Sized> Reader<'_, T> {
         Ok(label)
     }
 
-    fn groups(&mut self, types: usize) -> Result<Vec<[i8; 3]>, Stopped> {
+    fn groups(&mut self, (edition, types): (Edition, usize)) -> Result<Vec<Coefficients>, Stopped> {
         let mut groups = Vec::new();
         for m in 0..types {
             self.word(if m == 0 { "" } else { ", " })?;
-            let a = self.number(COEFFICIENT)?;
-            self.word(" ")?;
-            let b = self.number(COEFFICIENT)?;
-            self.word(" ")?;
-            let d = self.number(COEFFICIENT)?;
-            groups.push([a, b, d].map(|number| number as i8));
+            groups.push(self.group(edition)?);
         }
         Ok(groups)
+    }
+
+    fn group(&mut self, edition: Edition) -> Result<Coefficients, Stopped> {
+        let a = self.number(COEFFICIENT)?;
+        self.word(" ")?;
+        let b = self.number(COEFFICIENT)?;
+        self.word(" ")?;
+        let d = self.number(COEFFICIENT)?;
+        let sum = [a, b, d].map(|number| number as i8);
+        if edition == Edition::First {
+            return Ok(Coefficients::whole(sum));
+        }
+        self.word(" ")?;
+        let e = self.number(self.form.divisors())?;
+        Ok(Coefficients::over(e as u8, sum))
     }
 
     fn number_token(&mut self) -> Result<usize, Stopped> {

@@ -5,6 +5,7 @@ mod log;
 use crate::bench::Bench;
 use macaroosh::calls::{Answer, First, Step};
 use macaroosh::{Form, Refusal, MOST_WORDS};
+use std::slice::ChunksExact;
 
 // The forms as parameters of code that is made for each.
 const MESSAGE: u8 = Form::Message as u8;
@@ -99,10 +100,12 @@ fn parted(part: &[u8]) -> Option<(&[u8], usize, usize, [u8; 4])> {
     }
 }
 
-// Refusals 1 to 8. Thresholds are computed before n and t are admitted; those that are admitted have them within i16.
+// Refusals 1 to 9. Thresholds are computed before n and t are admitted; those that are admitted have them within i16.
 fn read_table(part: &[u8], n: u8, t: u8, rules: &mut [Rule; 64]) -> Result<Table, Refusal> {
     let (body, first_state, first_rule, counts) = parted(part).ok_or(refused(1, 0))?;
-    let [states, rule_count, types, factor] = counts.map(usize::from);
+    let [states, rule_count, types_byte, factor] = counts.map(usize::from);
+    let second = types_byte >= 16;
+    let types = if second { types_byte - 16 } else { types_byte };
     if states.wrapping_sub(1) >= 16
         || rule_count.wrapping_sub(1) >= 64
         || types.wrapping_sub(1) >= 4
@@ -110,7 +113,7 @@ fn read_table(part: &[u8], n: u8, t: u8, rules: &mut [Rule; 64]) -> Result<Table
     {
         return Err(refused(2, 0));
     }
-    let size = 2 + 3 * types;
+    let size = 2 + (3 + usize::from(second)) * types;
     if first_rule != rule_count * size || first_state != 2 * states + first_rule || body.len() != first_state {
         return Err(refused(3, 0));
     }
@@ -127,13 +130,41 @@ fn read_table(part: &[u8], n: u8, t: u8, rules: &mut [Rule; 64]) -> Result<Table
     if initial == 0 {
         return Err(refused(5, 0));
     }
+    let records = rule_records.chunks_exact(size);
+    if second {
+        read_rules::<4>(records, &sent[..states], n, t, rules)?;
+    } else {
+        read_rules::<3>(records, &sent[..states], n, t, rules)?;
+    }
+    Ok(Table { rules: rule_count, types, factor: factor as u32, initial })
+}
+
+// Refusals 6 to 9, where a rule has so many bytes for each type: a, b and d, or e besides.
+#[inline(always)]
+fn read_rules<const WIDE: usize>(
+    records: ChunksExact<u8>,
+    sent: &[u8],
+    n: u8,
+    t: u8,
+    rules: &mut [Rule; 64],
+) -> Result<(), Refusal> {
     let (n, t) = (i32::from(n), i32::from(t));
-    for (r, (record, rule)) in rule_records.chunks_exact(size).zip(rules).enumerate() {
+    for (r, (record, rule)) in records.zip(rules).enumerate() {
         let (from, to) = (record[0], record[1]);
-        if usize::from(from) >= states || usize::from(to) >= states {
-            return Err(refused(6, r));
+        let (old, new) = match (sent.get(usize::from(from)), sent.get(usize::from(to))) {
+            (Some(&old), Some(&new)) => (old, new),
+            _ => return Err(refused(6, r)),
+        };
+        let mut in_range = true;
+        for (least, c) in rule.least.iter_mut().zip(record[2..].chunks_exact(WIDE)) {
+            let sum = i32::from(c[0] as i8) * n + i32::from(c[1] as i8) * t + i32::from(c[2] as i8);
+            let e = if WIDE == 3 { 1 } else { c[3] };
+            in_range &= e.wrapping_sub(1) < 8;
+            *least = if WIDE == 3 { sum as i16 } else { rounded_up(sum, e) };
         }
-        let (old, new) = (sent[usize::from(from)], sent[usize::from(to)]);
+        if !in_range {
+            return Err(refused(9, r));
+        }
         if old & !new != 0 {
             return Err(refused(7, r));
         }
@@ -144,11 +175,26 @@ fn read_table(part: &[u8], n: u8, t: u8, rules: &mut [Rule; 64]) -> Result<Table
         rule.from = from;
         rule.to = to;
         rule.sends = fresh.trailing_zeros() as u8;
-        for (least, c) in rule.least.iter_mut().zip(record[2..].chunks_exact(3)) {
-            *least = (i32::from(c[0] as i8) * n + i32::from(c[1] as i8) * t + i32::from(c[2] as i8)) as i16;
-        }
     }
-    Ok(Table { rules: rule_count, types, factor: factor as u32, initial })
+    Ok(())
+}
+
+// The smallest whole number not below sum/e, without a division. An e out of range is refused, so that any will do for it.
+#[inline(always)]
+fn rounded_up(sum: i32, e: u8) -> i16 {
+    // Sums of admitted n and t are not below -2^14: raised by so much for each whole, they are not negative.
+    const RAISED: i32 = 1 << 14;
+    let at = usize::from(e.wrapping_sub(1)) % INVERSE.len();
+    let raised = sum + (RAISED + 1) * (at as i32 + 1) - 1;
+    (((u64::from(raised as u32) * INVERSE[at]) >> 32) as i16).wrapping_sub(RAISED as i16)
+}
+
+// 2^32/e for e from 1 to 8, each raised to the next whole number: with less than 2^18 the product is exact above bit 32.
+const INVERSE: [u64; 8] =
+    [inverse(1), inverse(2), inverse(3), inverse(4), inverse(5), inverse(6), inverse(7), inverse(8)];
+
+const fn inverse(e: u64) -> u64 {
+    (1 << 32) / e + 1
 }
 
 // A bundle that is not refused by reading.

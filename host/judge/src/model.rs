@@ -17,15 +17,77 @@ pub struct State {
     pub sent: u8,
 }
 
-/// A rule record: its ends, and a, b, d for each type.
+/// The edition of a table's rules.
+#[derive(Clone, Copy, Debug, PartialEq, Eq)]
+pub enum Edition {
+    /// Thresholds without a divisor.
+    First,
+    /// A divisor for each type.
+    Second,
+}
+
+impl Edition {
+    /// The edition and the number of types that a types byte tells, also where no table has so many.
+    pub fn of(types_byte: usize) -> (Edition, usize) {
+        if types_byte < 16 {
+            (Edition::First, types_byte)
+        } else {
+            (Edition::Second, types_byte - 16)
+        }
+    }
+
+    /// The types byte for so many types.
+    pub fn types_byte(self, types: usize) -> usize {
+        match self {
+            Edition::First => types,
+            Edition::Second => types + 16,
+        }
+    }
+}
+
+/// What a rule has for one type.
+#[derive(Clone, Copy, Debug, PartialEq, Eq)]
+pub struct Coefficients {
+    /// What n is multiplied by.
+    pub a: i8,
+    /// What t is multiplied by.
+    pub b: i8,
+    /// What is added.
+    pub d: i8,
+    /// What the sum is divided by; 1 in the first edition.
+    pub e: u8,
+}
+
+impl Coefficients {
+    /// A sum that is not divided.
+    pub fn whole([a, b, d]: [i8; 3]) -> Coefficients {
+        Coefficients { a, b, d, e: 1 }
+    }
+
+    /// A sum that is divided by e.
+    pub fn over(e: u8, sum: [i8; 3]) -> Coefficients {
+        Coefficients { e, ..Coefficients::whole(sum) }
+    }
+
+    // As they lie in a rule.
+    fn of(bytes: &[u8], edition: Edition) -> Coefficients {
+        let sum = [bytes[0] as i8, bytes[1] as i8, bytes[2] as i8];
+        match edition {
+            Edition::First => Coefficients::whole(sum),
+            Edition::Second => Coefficients::over(bytes[3], sum),
+        }
+    }
+}
+
+/// A rule record: its ends, and its coefficients for each type.
 #[derive(Clone, Debug)]
 pub struct Rule {
     /// The state that it leaves.
     pub from: usize,
     /// The state that it enters.
     pub to: usize,
-    /// The coefficients by type.
-    pub coefficients: Vec<[i8; 3]>,
+    /// By type.
+    pub coefficients: Vec<Coefficients>,
 }
 
 /// A table that is not refused.
@@ -35,6 +97,8 @@ pub struct Table {
     pub states: Vec<State>,
     /// Up to 64 rules.
     pub rules: Vec<Rule>,
+    /// The edition of its rules.
+    pub edition: Edition,
     /// How many types of message there are.
     pub types: usize,
     /// The factor k: n must exceed k·t.
@@ -70,84 +134,14 @@ pub(crate) fn little_endian(bytes: &[u8]) -> usize {
     usize::from(bytes[0]) + 256 * usize::from(bytes[1])
 }
 
-/// Reads a table part: refusals 1 to 8.
+/// Reads a table part as the outline has it: refusals 1 to 9.
 pub fn read_table(part: &[u8]) -> Result<Table, Refusal> {
-    if part.len() < 8 {
-        return Err(refused(1, 0));
-    }
-    let (body, trailer) = part.split_at(part.len() - 8);
-    let [states, rules, types, factor] = [4, 5, 6, 7].map(|i| usize::from(trailer[i]));
-    let in_range = (1..=16).contains(&states)
-        && (1..=64).contains(&rules)
-        && (1..=4).contains(&types)
-        && (1..=8).contains(&factor);
-    if !in_range {
-        return Err(refused(2, 0));
-    }
-    let rule_size = 2 + 3 * types;
-    let first_state = little_endian(&trailer[0..2]);
-    let first_rule = little_endian(&trailer[2..4]);
-    if first_state != 2 * states + rules * rule_size || first_rule != rules * rule_size || body.len() != first_state {
-        return Err(refused(3, 0));
-    }
-    let mut table = Table { states: Vec::new(), rules: Vec::new(), types, factor: factor as u32 };
-    for (i, record) in body[..2 * states].chunks(2).enumerate() {
-        let (flags, sent) = (record[0], record[1]);
-        let initial = flags & 1 != 0;
-        if flags > 3 || u32::from(sent) >> types != 0 || (initial && sent != 0) {
-            return Err(refused(4, i));
-        }
-        table.states.push(State { initial, accepting: flags & 2 != 0, sent });
-    }
-    if !table.states.iter().any(|s| s.initial) {
-        return Err(refused(5, 0));
-    }
-    for (r, record) in body[2 * states..].chunks(rule_size).enumerate() {
-        let (from, to) = (usize::from(record[0]), usize::from(record[1]));
-        if from >= states || to >= states {
-            return Err(refused(6, r));
-        }
-        let (old, new) = (table.states[from].sent, table.states[to].sent);
-        if old & !new != 0 {
-            return Err(refused(7, r));
-        }
-        if (new & !old).count_ones() > 1 {
-            return Err(refused(8, r));
-        }
-        let coefficients = record[2..].chunks(3).map(|c| [c[0] as i8, c[1] as i8, c[2] as i8]).collect();
-        table.rules.push(Rule { from, to, coefficients });
-    }
-    Ok(table)
+    Model.read_table(part)
 }
 
-/// Reads a bundle beside a standing table: refusals 10 and 11, the table's, then 12 to 14.
+/// Reads a bundle beside a standing table as the outline has it: refusals 10 and 11, the table's, then 12 to 14.
 pub fn read(bundle: &[u8], standing: &[u8]) -> Result<Bundle, Refusal> {
-    if bundle.len() < 8 {
-        return Err(refused(10, 0));
-    }
-    let trailer = &bundle[bundle.len() - 8..];
-    let first_step = little_endian(&trailer[0..2]);
-    let first_start = little_endian(&trailer[2..4]);
-    if first_start + 8 > bundle.len() {
-        return Err(refused(11, 0));
-    }
-    let (front, schedule) = bundle.split_at(bundle.len() - first_start - 8);
-    let table = read_table(if front.is_empty() { standing } else { front })?;
-    let [n, t, f] = [4, 5, 6].map(|i| usize::from(trailer[i]));
-    let admitted = (1..=64).contains(&n) && n > table.factor as usize * t && f <= t;
-    let form = Form::of(u64::from(trailer[7])).filter(|_| admitted).ok_or(refused(12, 0))?;
-    if first_step % 4 != 0 || first_step > 16_384 || first_start != first_step + (n - f) {
-        return Err(refused(13, 0));
-    }
-    let (starts, rest) = schedule.split_at(n - f);
-    let starts: Vec<usize> = starts.iter().map(|&s| usize::from(s)).collect();
-    for (p, &s) in starts.iter().enumerate() {
-        if s >= table.states.len() || !table.states[s].initial {
-            return Err(refused(14, p));
-        }
-    }
-    let steps = rest[..first_step].chunks(4).map(|s| Step::of([s[0], s[1], s[2], s[3]])).collect();
-    Ok(Bundle { table, n, t, f, form, starts, steps })
+    Model.read(bundle, standing)
 }
 
 /// What a board has received of one type, or what was sent of it: who, or how many.
@@ -285,11 +279,121 @@ impl Bundle {
     }
 }
 
-/// The outline's sentences about steps, each with its meaning as the default; a broken variant for tests changes one.
+/// The outline's sentences about tables and steps, each with its meaning as the default; a broken variant for tests changes one.
 pub trait Outline {
-    /// The threshold a·n + b·t + d.
-    fn threshold(&self, bundle: &Bundle, [a, b, d]: [i8; 3]) -> i64 {
-        i64::from(a) * bundle.n as i64 + i64::from(b) * bundle.t as i64 + i64::from(d)
+    /// The edition and the number of types that a types byte tells.
+    fn edition(&self, types_byte: usize) -> (Edition, usize) {
+        Edition::of(types_byte)
+    }
+
+    /// How many bytes a rule has.
+    fn rule_size(&self, edition: Edition, types: usize) -> usize {
+        match edition {
+            Edition::First => 2 + 3 * types,
+            Edition::Second => 2 + 4 * types,
+        }
+    }
+
+    /// The coefficients of a rule by type.
+    fn coefficients(&self, rule: &[u8], edition: Edition, types: usize) -> Vec<Coefficients> {
+        let each = (rule.len() - 2) / types;
+        rule[2..].chunks(each).map(|bytes| Coefficients::of(bytes, edition)).collect()
+    }
+
+    /// Whether a sum may be divided by e.
+    fn divides(&self, e: u8) -> bool {
+        (1..=8).contains(&e)
+    }
+
+    /// What a rule is refused for, if it is: 6, then 9, then 7, then 8.
+    fn check_rule(&self, states: &[State], rule: &Rule) -> Result<(), u8> {
+        if rule.from >= states.len() || rule.to >= states.len() {
+            return Err(6);
+        }
+        if !rule.coefficients.iter().all(|coefficients| self.divides(coefficients.e)) {
+            return Err(9);
+        }
+        check_sent(states, rule)
+    }
+
+    /// Reads a table part: refusals 1 to 9.
+    fn read_table(&self, part: &[u8]) -> Result<Table, Refusal> {
+        if part.len() < 8 {
+            return Err(refused(1, 0));
+        }
+        let (body, trailer) = part.split_at(part.len() - 8);
+        let [states, rules, types_byte, factor] = [4, 5, 6, 7].map(|i| usize::from(trailer[i]));
+        let (edition, types) = self.edition(types_byte);
+        let in_range = (1..=16).contains(&states)
+            && (1..=64).contains(&rules)
+            && (1..=4).contains(&types)
+            && (1..=8).contains(&factor);
+        if !in_range {
+            return Err(refused(2, 0));
+        }
+        let rule_size = self.rule_size(edition, types);
+        let first_state = little_endian(&trailer[0..2]);
+        let first_rule = little_endian(&trailer[2..4]);
+        if first_state != 2 * states + rules * rule_size || first_rule != rules * rule_size || body.len() != first_state
+        {
+            return Err(refused(3, 0));
+        }
+        let mut table = Table { states: Vec::new(), rules: Vec::new(), edition, types, factor: factor as u32 };
+        for (i, record) in body[..2 * states].chunks(2).enumerate() {
+            let (flags, sent) = (record[0], record[1]);
+            let initial = flags & 1 != 0;
+            if flags > 3 || u32::from(sent) >> types != 0 || (initial && sent != 0) {
+                return Err(refused(4, i));
+            }
+            table.states.push(State { initial, accepting: flags & 2 != 0, sent });
+        }
+        if !table.states.iter().any(|s| s.initial) {
+            return Err(refused(5, 0));
+        }
+        for (r, record) in body[2 * states..].chunks(rule_size).enumerate() {
+            let (from, to) = (usize::from(record[0]), usize::from(record[1]));
+            let rule = Rule { from, to, coefficients: self.coefficients(record, edition, types) };
+            self.check_rule(&table.states, &rule).map_err(|number| refused(number, r))?;
+            table.rules.push(rule);
+        }
+        Ok(table)
+    }
+
+    /// Reads a bundle beside a standing table: refusals 10 and 11, the table's, then 12 to 14.
+    fn read(&self, bundle: &[u8], standing: &[u8]) -> Result<Bundle, Refusal> {
+        if bundle.len() < 8 {
+            return Err(refused(10, 0));
+        }
+        let trailer = &bundle[bundle.len() - 8..];
+        let first_step = little_endian(&trailer[0..2]);
+        let first_start = little_endian(&trailer[2..4]);
+        if first_start + 8 > bundle.len() {
+            return Err(refused(11, 0));
+        }
+        let (front, schedule) = bundle.split_at(bundle.len() - first_start - 8);
+        let table = self.read_table(if front.is_empty() { standing } else { front })?;
+        let [n, t, f] = [4, 5, 6].map(|i| usize::from(trailer[i]));
+        let admitted = (1..=64).contains(&n) && n > table.factor as usize * t && f <= t;
+        let form = Form::of(u64::from(trailer[7])).filter(|_| admitted).ok_or(refused(12, 0))?;
+        if first_step % 4 != 0 || first_step > 16_384 || first_start != first_step + (n - f) {
+            return Err(refused(13, 0));
+        }
+        let (starts, rest) = schedule.split_at(n - f);
+        let starts: Vec<usize> = starts.iter().map(|&s| usize::from(s)).collect();
+        for (p, &s) in starts.iter().enumerate() {
+            if s >= table.states.len() || !table.states[s].initial {
+                return Err(refused(14, p));
+            }
+        }
+        let steps = rest[..first_step].chunks(4).map(|s| Step::of([s[0], s[1], s[2], s[3]])).collect();
+        Ok(Bundle { table, n, t, f, form, starts, steps })
+    }
+
+    /// The threshold: the smallest whole number not below (a·n + b·t + d)/e.
+    fn threshold(&self, bundle: &Bundle, coefficients: Coefficients) -> i64 {
+        let (sum, e) = (sum(bundle, coefficients), i64::from(coefficients.e));
+        // Rust's quotient is the next whole number towards 0, so that it is this or the one after it.
+        (sum / e..=sum / e + 1).find(|whole| whole * e >= sum).expect("one of the two")
     }
 
     /// Point 1 of "One step": whether the step's message is in transit before it.
@@ -421,6 +525,23 @@ pub trait Outline {
     }
 }
 
+/// Whether a rule whose ends are states keeps what was sent: 7, then 8.
+pub fn check_sent(states: &[State], rule: &Rule) -> Result<(), u8> {
+    let (old, new) = (states[rule.from].sent, states[rule.to].sent);
+    if old & !new != 0 {
+        return Err(7);
+    }
+    if (new & !old).count_ones() > 1 {
+        return Err(8);
+    }
+    Ok(())
+}
+
+/// a·n + b·t + d.
+pub fn sum(bundle: &Bundle, Coefficients { a, b, d, .. }: Coefficients) -> i64 {
+    i64::from(a) * bundle.n as i64 + i64::from(b) * bundle.t as i64 + i64::from(d)
+}
+
 /// The outline as it is written.
 pub struct Model;
 
@@ -428,7 +549,7 @@ impl Outline for Model {}
 
 impl<O: Outline> Bench for O {
     fn run(&self, bytes: &[u8], standing: &[u8], words: &mut [u64]) -> Answer {
-        let bundle = match read(bytes, standing) {
+        let bundle = match self.read(bytes, standing) {
             Ok(bundle) => bundle,
             Err(refusal) => return nothing_done(refusal),
         };
@@ -446,14 +567,14 @@ impl<O: Outline> Bench for O {
     }
 
     fn translate(&self, bytes: &[u8], standing: &[u8], out: &mut [u8]) -> Answer {
-        match read(bytes, standing) {
+        match self.read(bytes, standing) {
             Ok(bundle) => self.write(bytes, &bundle, bundle.form.other(), out),
             Err(refusal) => nothing_done(refusal),
         }
     }
 
     fn translate_to(&self, bytes: &[u8], standing: &[u8], form: u64, out: &mut [u8]) -> Answer {
-        let bundle = match read(bytes, standing) {
+        let bundle = match self.read(bytes, standing) {
             Ok(bundle) => bundle,
             Err(refusal) => return nothing_done(refusal),
         };
@@ -464,7 +585,7 @@ impl<O: Outline> Bench for O {
     }
 
     fn first_step(&self, bytes: &[u8], standing: &[u8]) -> First {
-        let bundle = read(bytes, standing)?;
+        let bundle = self.read(bytes, standing)?;
         match self.run_steps(&bundle) {
             (_, Some(refusal)) => Err(refusal),
             (left, None) => Ok(self.first_in(&bundle, &left)),

@@ -2,6 +2,7 @@
 
 use crate::library::calls::Step;
 use crate::terms::form::Form;
+use crate::terms::rules::{Layout, Threshold};
 use std::ops::Range;
 
 /// The table that a bundle has in front, which may be empty; none where its trailer does not fit it.
@@ -29,6 +30,7 @@ pub struct Parts<'a> {
     pub front: &'a [u8],
     states: &'a [u8],
     rules: &'a [u8],
+    layout: Layout,
     steps: &'a [u8],
     numbers: &'a [u8],
 }
@@ -61,11 +63,12 @@ impl<'a> Parts<'a> {
         let (records, table) = cut(if front.is_empty() { standing } else { front }, 8)?;
         let (states, rules) = cut(records, distance(table, 2))?;
         let [n, t, f] = [4, 5, 6].map(|i| usize::from(trailer[i]));
-        let types = usize::from(table[6]);
+        let layout = Layout::of(table[6]);
+        let types = layout.types;
         let fits = f < n && n <= 64 && starts.len() == n - f && (1..=4).contains(&types);
         let numbers = &trailer[4..];
         let form = Form::of(u64::from(trailer[7]))?;
-        fits.then_some(Parts { n, t, f, form, types, starts, front, states, rules, steps, numbers })
+        fits.then_some(Parts { n, t, f, form, types, starts, front, states, rules, layout, steps, numbers })
     }
 
     /// How many boards are correct.
@@ -90,20 +93,23 @@ impl<'a> Parts<'a> {
 
     /// The states that a rule leaves and enters.
     pub fn ends(&self, rule: u8) -> Option<(u8, u8)> {
-        let at = usize::from(rule) * (2 + 3 * self.types);
-        Some((*self.rules.get(at)?, *self.rules.get(at + 1)?))
+        let record = self.rule(rule);
+        Some((*record.first()?, *record.get(1)?))
     }
 
     /// How many rules the table in use has.
     pub fn rules(&self) -> usize {
-        self.rules.len() / (2 + 3 * self.types)
+        self.rules.len() / self.layout.rule_size()
     }
 
-    /// A rule's a, b and d by type.
-    pub fn coefficients(&self, rule: u8) -> impl Iterator<Item = [i8; 3]> + 'a {
-        let long = 2 + 3 * self.types;
-        let record = self.rules.chunks_exact(long).nth(usize::from(rule)).unwrap_or(&[]);
-        record.get(2..).unwrap_or(&[]).chunks_exact(3).map(|c| [c[0] as i8, c[1] as i8, c[2] as i8])
+    /// What a rule asks for by type.
+    pub fn thresholds(&self, rule: u8) -> impl Iterator<Item = Threshold> + 'a {
+        self.layout.thresholds(self.rule(rule))
+    }
+
+    // The bytes of a rule; none where the table has no such rule.
+    fn rule(&self, rule: u8) -> &'a [u8] {
+        self.rules.chunks_exact(self.layout.rule_size()).nth(usize::from(rule)).unwrap_or(&[])
     }
 
     /// How many sources its form has: senders, tags, or one.

@@ -1,5 +1,6 @@
 //! What an image of a table shows, in Graphviz's DOT language: states, rules by number with what they ask for, a legend.
 
+use macaroosh::terms::rules::{Layout, Threshold};
 use std::collections::BTreeMap;
 
 // Lines are grey, so that none looks like the sign of a number. A rule's box lies on its arrow: no line crosses it, and it
@@ -25,26 +26,34 @@ pub fn text(table: &[u8]) -> String {
     format!("{LOOKS}rankdir={direction};\n{states}{arrows}label=<{}>;\n}}\n", legend(&table))
 }
 
-/// States, rules, T and k of a table that the library has accepted.
-pub fn numbers(table: &[u8]) -> [usize; 4] {
+/// How many states and rules a table has that the library has accepted.
+pub fn counts(table: &[u8]) -> [usize; 2] {
+    let [states, rules, ..] = numbers(table);
+    [states, rules].map(usize::from)
+}
+
+// States, rules, types byte and k.
+fn numbers(table: &[u8]) -> [u8; 4] {
     let last = table.len().saturating_sub(4);
-    [0, 1, 2, 3].map(|i| table.get(last + i).map_or(0, |&number| usize::from(number)))
+    [0, 1, 2, 3].map(|i| table.get(last + i).copied().unwrap_or(0))
 }
 
 // A table by its records.
 struct Table<'a> {
     states: &'a [u8],
     rules: &'a [u8],
+    layout: Layout,
     types: usize,
     factor: usize,
 }
 
 impl<'a> Table<'a> {
     fn of(table: &'a [u8]) -> Table<'a> {
-        let [states, _, types, factor] = numbers(table);
+        let [states, _, types_byte, factor] = numbers(table);
         let records = &table[..table.len() - 8];
-        let (states, rules) = records.split_at(2 * states);
-        Table { states, rules, types, factor }
+        let (states, rules) = records.split_at(2 * usize::from(states));
+        let layout = Layout::of(types_byte);
+        Table { states, rules, layout, types: layout.types, factor: factor.into() }
     }
 
     // Flags and sent mask of each state.
@@ -73,16 +82,16 @@ impl<'a> Table<'a> {
     // The lines of all rules between two states, by those.
     fn arrows(&self) -> BTreeMap<(u8, u8), Vec<String>> {
         let mut arrows: BTreeMap<(u8, u8), Vec<String>> = BTreeMap::new();
-        for (r, rule) in self.rules.chunks_exact(2 + 3 * self.types).enumerate() {
-            arrows.entry((rule[0], rule[1])).or_default().extend(self.rule(r, &rule[2..]));
+        for (r, rule) in self.rules.chunks_exact(self.layout.rule_size()).enumerate() {
+            arrows.entry((rule[0], rule[1])).or_default().extend(self.rule(r, rule));
         }
         arrows
     }
 
     // A rule's number and what it asks for, of each type on a line of its own.
-    fn rule(&self, r: usize, coefficients: &[u8]) -> Vec<String> {
-        let thresholds = coefficients.chunks_exact(3).map(|c| [c[0], c[1], c[2]].map(|byte| i32::from(byte as i8)));
-        let asked = thresholds.enumerate().filter(|(_, threshold)| asks(*threshold, self.factor as i32));
+    fn rule(&self, r: usize, rule: &[u8]) -> Vec<String> {
+        let thresholds = self.layout.thresholds(rule);
+        let asked = thresholds.enumerate().filter(|(_, threshold)| asks(*threshold, self.factor));
         let mut asked = asked.map(|(m, threshold)| {
             let of = if self.types > 1 { format!("type {m} ") } else { String::new() };
             format!("{of}≥ {}", words(threshold))
@@ -103,14 +112,15 @@ fn arrow((from, to): (u8, u8), lines: &[String]) -> String {
 }
 
 // Whether a threshold is above 0 for some n and t that the table admits; any count meets another.
-fn asks([a, b, d]: [i32; 3], factor: i32) -> bool {
-    (1..=64).any(|n| (0..n).take_while(|t| n > factor * t).any(|t| a * n + b * t + d > 0))
+fn asks(threshold: Threshold, factor: usize) -> bool {
+    (1..=64).any(|n| (0..n).take_while(|t| n > factor * t).any(|t| threshold.asked(n, t) > 0))
 }
 
-// a·n + b·t + d as people write it.
-fn words(threshold: [i32; 3]) -> String {
+// (a·n + b·t + d)/e as people write it.
+fn words(threshold: Threshold) -> String {
     let mut words = String::new();
-    for (number, of) in threshold.into_iter().zip(["n", "t", ""]).filter(|(number, _)| *number != 0) {
+    let numbers = threshold.sum.into_iter().map(i32::from);
+    for (number, of) in numbers.zip(["n", "t", ""]).filter(|(number, _)| *number != 0) {
         words += match (words.is_empty(), number < 0) {
             (true, false) => "",
             (true, true) => "−",
@@ -119,7 +129,7 @@ fn words(threshold: [i32; 3]) -> String {
         };
         words += &if number.abs() == 1 && !of.is_empty() { of.to_string() } else { format!("{}{of}", number.abs()) };
     }
-    words
+    threshold.divided(words)
 }
 
 // What the signs mean, with T and k, for which an image has no other place.

@@ -5,6 +5,7 @@ use crate::kinds::{self, Kind};
 use crate::show::{counted, listed, message_of, sender};
 use macaroosh::calls::{run, Step};
 use macaroosh::parts::{distance, front, Parts};
+use macaroosh::terms::rules::{Layout, Threshold};
 use macaroosh::{Form, Refusal, MOST_WORDS};
 
 /// The lines below the refusal of a bundle.
@@ -15,7 +16,7 @@ pub fn of_bundle(bundle: &[u8], standing: &[u8], refusal: Refusal) -> Vec<String
         return vec![format!("this is {other}")];
     }
     match refusal.number {
-        1..=8 => of_table_in_use(bundle, standing, refusal),
+        1..=9 => of_table_in_use(bundle, standing, refusal),
         11..=14 => of_schedule(bundle, standing, refusal),
         20..=25 => of_step(bundle, standing, refusal),
         _ => Vec::new(),
@@ -56,14 +57,17 @@ fn of_table_in_use(bundle: &[u8], standing: &[u8], refusal: Refusal) -> Vec<Stri
 // The counts of a table's trailer; or its distances, and what they would have to be.
 fn table_figures(table: &[u8], number: u8) -> Vec<String> {
     let (before, trailer) = table.split_at(table.len().saturating_sub(8));
-    let [states, rules, types, factor] = match trailer {
-        [_, _, _, _, counts @ ..] if counts.len() == 4 => [0, 1, 2, 3].map(|i| usize::from(counts[i])),
+    let (states, rules, layout, factor) = match *trailer {
+        [_, _, _, _, states, rules, types_byte, factor] => {
+            (usize::from(states), usize::from(rules), Layout::of(types_byte), factor)
+        }
         _ => return Vec::new(),
     };
-    let counts = [counted(states, "state"), counted(rules, "rule"), counted(types, "type")].join(", ");
-    let long = 2 + 3 * types;
+    let counts = [counted(states, "state"), counted(rules, "rule"), counted(layout.types, "type")].join(", ");
+    let edition = if layout.second { " (second edition)" } else { "" };
+    let long = layout.rule_size();
     match number {
-        2 => vec![format!("its trailer says {counts}, k = {factor}")],
+        2 => vec![format!("its trailer says {counts}{edition}, k = {factor}")],
         3 => vec![
             format!(
                 "its trailer says that states begin {} bytes before it and rules {}, and {} are before it",
@@ -172,16 +176,15 @@ impl Before<'_> {
     fn unmet(&self) -> Vec<String> {
         let (parts, Step { board, rule, kind, .. }) = (&self.parts, self.step);
         let received = &parts.picture(self.words).received[usize::from(board)];
-        let (n, t) = (parts.n as i64, parts.t as i64);
-        let types = parts.coefficients(rule).zip(received).enumerate();
+        let types = parts.thresholds(rule).zip(received).enumerate();
         types
-            .filter_map(|(m, ([a, b, d], counts))| {
+            .filter_map(|(m, (threshold, counts))| {
                 let heard_now = !self.step.silent() && m == usize::from(kind);
                 let has = counts.iter().sum::<u32>() + u32::from(heard_now);
-                let asked = i64::from(a) * n + i64::from(b) * t + i64::from(d);
+                let asked = threshold.asked(parts.n, parts.t);
                 let this = if heard_now { ", this one included" } else { "" };
                 (i64::from(has) < asked).then(|| {
-                    let formula = formula([a, b, d]);
+                    let formula = formula(threshold);
                     format!("rule {rule} asks for {asked} of type {m} ({formula}), board {board} has {has}{this}")
                 })
             })
@@ -227,8 +230,13 @@ impl Before<'_> {
     }
 }
 
-// A threshold as it is written by hand: `n - t`, `2·t + 1`, `0`.
-fn formula([a, b, d]: [i8; 3]) -> String {
+// A threshold as it is written by hand: `n - t`, `2·t + 1`, `(n + t + 1)/2 rounded up`.
+fn formula(threshold: Threshold) -> String {
+    let rounded = if threshold.e == 1 { "" } else { " rounded up" };
+    threshold.divided(sum(threshold.sum)) + rounded
+}
+
+fn sum([a, b, d]: [i8; 3]) -> String {
     let mut text = String::new();
     for (number, letter) in [(a, "n"), (b, "t"), (d, "")] {
         let size = i32::from(number).abs();

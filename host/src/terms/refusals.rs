@@ -86,8 +86,8 @@ const fn line(number: u8, place: Place, when: &'static str) -> Line {
 }
 
 /// Every refusal, in the order of the checks.
-pub const ALL: [Line; 27] = [
-    line(40, Place::None, "the input is over 17,392 bytes (report program only)"),
+pub const ALL: [Line; 28] = [
+    line(40, Place::None, "the input is over 17,648 bytes (report program only)"),
     line(10, Place::None, "the bundle is under 8 bytes"),
     line(11, Place::None, "the schedule's second distance plus 8 exceeds the bundle"),
     line(60, Place::Byte, "the text is no drawing; up to there it could be one"),
@@ -105,6 +105,7 @@ pub const ALL: [Line; 27] = [
     ),
     line(5, Place::None, "no state is initial"),
     line(6, Place::Rule, "the rule's from or to is no state"),
+    line(9, Place::Rule, "the rule has a divisor that is not 1 to 8"),
     line(7, Place::Rule, "the rule forgets a sent type"),
     line(8, Place::Rule, "the rule sends two new types"),
     line(12, Place::None, "n, t, f are not admitted (n in 1 to 64, n > k·t, f ≤ t), or the form is over 2"),

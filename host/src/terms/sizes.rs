@@ -3,8 +3,8 @@
 /// The most words that a configuration has: 64 states, 64 · 4 pairs of counts, 4 sent counts.
 pub const MOST_WORDS: usize = 64 + 64 * 4 * 2 + 4;
 
-/// The most bytes that a table part has: 16 states, 64 rules of 14 bytes, a trailer.
-pub const MOST_TABLE: usize = 16 * 2 + 64 * 14 + 8;
+/// The most bytes that a table part has: 16 states, 64 rules of 18 bytes in the second edition, a trailer.
+pub const MOST_TABLE: usize = 16 * 2 + 64 * 18 + 8;
 
 /// The most steps that a schedule has.
 pub const MOST_STEPS: usize = 4_096;
@@ -12,6 +12,6 @@ pub const MOST_STEPS: usize = 4_096;
 /// The most bytes that a bundle has: a table, 64 starts, 4,096 steps, a trailer.
 pub const MOST_BYTES: usize = MOST_TABLE + 64 + MOST_STEPS * 4 + 8;
 
-/// The most bytes that a drawing has as it is written: two lines of 12 and 10 bytes, ten states of 19 and six of 20 (one is
-/// initial and has a shorter mask), 64 rules of 85, and the last line.
-pub const MOST_DRAWING: usize = 12 + 10 + 10 * 19 + 6 * 20 - 1 + 64 * 85 + 2;
+/// The most bytes that a drawing has as it is written: two lines of 12 and 11 bytes, ten states of 19 and six of 20 (one is
+/// initial and has a shorter mask), 64 rules of 93 in the second edition, and the last line.
+pub const MOST_DRAWING: usize = 12 + 11 + 10 * 19 + 6 * 20 - 1 + 64 * 93 + 2;

@@ -15,7 +15,9 @@ undraw-in-spec =
     (λ c κs. search needs) (λ c κs. search needs) (λ c. search needs)
     -- returns
     (λ c. let E = undrew-stuck (c .before .before .before .before .read .ensures .0) (c .before .if1 .taken) (c .answered .ensures) in (E .answer, E .bytes))
-    (λ c κs. search needs) (λ c κs. search needs) (λ c. search needs)
+    -- counts-outside-requires
+    (λ c κs. omega (arith, c .before .before .before .read .ensures .0 .draws (c .if1 .left) .few))
+    (λ c κs. search needs) (λ c. search needs)
     -- returns-2
     (λ c. let counted = c .before .before in let known = counted .before .before .before .before in
     let E = undrew-outside (known .read .ensures .0) (counted .before .if1 .left) (counted .counts-outside .ensures) (c .before .if2 .taken) (c .answered2 .ensures) in
@@ -24,7 +26,8 @@ undraw-in-spec =
     (λ c κs. let counted = c .before .before in let known = counted .before .before .before .before in
     let e = counted .counts-outside .ensures in
     let h = c .before .if2 .left in
-    (counts-by _ _ _ _ e h, few-records (known .read .ensures .0 .draws (counted .before .if1 .left)) e h))
+    let k = known .read .ensures .0 .draws (counted .before .if1 .left) in
+    (counts-by _ _ _ _ e h, omega (arith, k .few), few-records k e h))
     -- add-n
     (λ c. let counted = c .before .before .before .before .before .before in let known = counted .before .before .before .before in
     omega (arith, few-records (known .read .ensures .0 .draws (counted .before .if1 .left)) (counted .counts-outside .ensures) (c .before .before .before .before .before .if2 .left)))

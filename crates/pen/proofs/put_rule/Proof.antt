@@ -1,4 +1,4 @@
--- The two names and the label of all coefficients; with 4 types at most it has 97 bytes.
+-- The two names and the label of all weights, one put after the other.
 use borrow.Author.Needs.{needs}
 use native.Mathlib.Omega.{arith}
 use Rattle.pen.proofs.PartLaws.{rule-put}
@@ -10,7 +10,6 @@ put-rule-spec =
     tie.close
     (tie.spec
     (λ c. search needs) (λ c κs. search needs) (λ c κs. search needs) (λ c. search needs) (λ c κs. search needs)
-    (λ c κs. search needs) (λ c κs. search needs) (λ c. search needs) (λ c κs. search needs) (λ c. search needs)
-    (λ c κs. search needs) (λ c. search needs)
+    (λ c κs. search needs) (λ c κs. search needs) (λ c. search needs)
     -- returns
     (λ c. (search rule-put, omega arith)))

@@ -4,7 +4,7 @@ use Prim.Native.Nat.{_+_, _*_, _-_, _≤_}
 use native.Mathlib.Omega.{arith}
 use borrow.Author.Needs.{needs}
 use lib.ListN.{length}
-use Rattle.table.specs.Table.{statesOf, rulesOf, typesOf, ruleAt, stateBytes}
+use Rattle.table.specs.Table.{statesOf, rulesOf, typesByte, ruleAt, stateBytes}
 use Rattle.dot.specs.Text.{rulesText}
 use Rattle.pen.specs.Pen.{alone, mostRuleText}
 use Rattle.pen.proofs.PenLaws.{RestPut, rest-all}
@@ -15,7 +15,7 @@ use Rattle.pen.proofs.put_rules.Tie as tie
 
 abbrev Inv-loop : tie.InvT-loop
 Inv-loop out₀ n table rules k₀ m₀ out k m =
-    (k ≤ rules) × (m ≤ n + mostRuleText * k) × (length out ≡ length out₀) × RestPut out₀ n (alone (rulesText (rulesOf table) (typesOf table) table (stateBytes * statesOf table))) out m (alone (rulesText (rulesOf table - k) (typesOf table) table (ruleAt table k)))
+    (k ≤ rules) × (m ≤ n + mostRuleText * k) × (length out ≡ length out₀) × RestPut out₀ n (alone (rulesText (rulesOf table) (typesByte table) table (stateBytes * statesOf table))) out m (alone (rulesText (rulesOf table - k) (typesByte table) table (ruleAt table k)))
 
 abbrev μ-loop : tie.MeasureT-loop
 μ-loop out₀ n table rules k₀ m₀ out k m = rules - k

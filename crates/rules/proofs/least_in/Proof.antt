@@ -1,9 +1,10 @@
--- The coefficients are a part of the record; their least count is the threshold's.
+-- What the record says of type m has a divisor; its least count is the threshold's.
 use mathlib.Core.Path.{ap, _∙_}
-use mathlib.Core.List.{List}
-use Prim.Native.Nat.{ℕ, _+_}
+use Prim.Native.Nat.{_+_}
 use borrow.Author.Needs.{needs}
-use Rattle.threshold.specs.Threshold.{thresholdIn, leastOf}
+use Rattle.threshold.specs.declared.Weights.{Weights}
+use Rattle.threshold.specs.Threshold.{thresholdOf, leastOf}
+use Rattle.rules.proofs.RuleLaws.{type-below, some-divisor}
 use Rattle.rules.proofs.least_in.Statement.{statement}
 use Rattle.rules.proofs.least_in.Tie as tie
 
@@ -11,7 +12,12 @@ pub least-in-spec : {M : Type 1} → statement M
 least-in-spec =
     tie.close
     (tie.spec
-    (λ c. search needs) (λ c κs. search needs) (λ c κs. search needs)
+    (λ c. search needs)
+    -- weights-requires
+    (λ c κs. let R = c .before .before .pre .3 in
+    (R .small, search type-below, R .long))
+    -- least-requires
+    (λ c κs. (search some-divisor, search needs, search needs))
     -- returns
     (λ c. let a = c .before .before .before .before .args in
-    c .least-of .ensures ∙ ap (λ (x : List ℕ). leastOf (thresholdIn x (a .s .correct + a .s .faulty) (a .t))) (c .before .coefficients .ensures .0)))
+    c .least .ensures ∙ ap (λ (x : Weights). leastOf (thresholdOf x (a .s .correct + a .s .faulty) (a .t))) (c .before .weights .ensures)))

@@ -1,4 +1,4 @@
--- The first of 6, 7, 8 whose test says yes. The tests for 7 and 8 may look up both ends, since 6 has been passed.
+-- The first of 6, 9, 7, 8 whose test says yes. The tests for 7 and 8 may look up both ends, since 6 has been passed.
 use borrow.Author.Needs.{needs}
 use Rattle.fault.proofs.FaultLaws.{if-yes, if-no}
 use Rattle.table.proofs.TableLaws.{rule-ends}
@@ -14,13 +14,16 @@ rule-fault-spec =
     (λ c κs. search needs)
     -- returns
     (λ c. search (if-yes, if-no, needs))
-    -- forgets-requires
-    (λ c κs. (search needs, search rule-ends))
+    (λ c κs. search needs)
     -- returns-2
     (λ c. search (if-yes, if-no, needs))
-    -- sends-two-requires
+    -- forgets-requires
     (λ c κs. (search needs, search rule-ends))
     -- returns-3
     (λ c. search (if-yes, if-no, needs))
+    -- sends-two-requires
+    (λ c κs. (search needs, search rule-ends))
     -- returns-4
+    (λ c. search (if-yes, if-no, needs))
+    -- returns-5
     (λ c. search (if-yes, if-no, needs)))

@@ -1,51 +1,18 @@
--- Each sum and product is small enough to be read back from its bits unchanged, so the result is the threshold over the integers, or 0 where that is negative.
-use mathlib.Core.Path.{_∙_, ap}
+-- The sum, or 0 in place of a negative one, divided and rounded up is the least count of the threshold: a negative sum's threshold is at most 0.
+use mathlib.Core.Path.{ap, _∙_}
 use borrow.Author.Needs.{needs}
-use native.Mathlib.Omega.{arith}
-use lib.Signed.{mag}
-use Rattle.threshold.specs.Threshold.{thresholdOf}
+use Rattle.threshold.specs.Threshold.{sumOf, thresholdOf, leastOf}
 use Rattle.threshold.proofs.SizeLaws.{bits-back}
+use Rattle.threshold.proofs.QuotientLaws.{least-divided}
 use Rattle.threshold.proofs.least.Statement.{statement}
 use Rattle.threshold.proofs.least.Tie as tie
 
-scaled-requires : tie.Need-scaled-requires
-scaled-requires c κs = search needs
-
-scaled-requires-2 : tie.Need-scaled-requires-2
-scaled-requires-2 c κs = search needs
-
-plus-requires : tie.Need-plus-requires
-plus-requires c κs = rw (bits-back (c .before .scaled .result) (c .before .scaled .ok), bits-back (c .scaled2 .result) (c .scaled2 .ok)) (omega arith)
-
-signed-requires : tie.Need-signed-requires
-signed-requires c κs = search needs
-
-plus-requires-2 : tie.Need-plus-requires-2
-plus-requires-2 c κs =
-    let x = c .before .before .before .scaled in
-    let y = c .before .before .scaled2 in
-    rw (bits-back (c .before .plus .result) (c .before .plus .ok), bits-back (c .signed .result) (c .signed .ok))
-    (omega (arith, ap mag (bits-back (x .result) (x .ok)), ap mag (bits-back (y .result) (y .ok))))
-
-at-least-zero-requires : tie.Need-at-least-zero-requires
-at-least-zero-requires c κs =
-    let x = c .before .before .before .before .scaled in
-    let y = c .before .before .before .scaled2 in
-    let p = c .before .before .plus in
-    let d = c .before .signed in
-    rw (bits-back (c .plus2 .result) (c .plus2 .ok))
-    (omega (arith, ap mag (bits-back (x .result) (x .ok)), ap mag (bits-back (y .result) (y .ok)), ap mag (bits-back (p .result) (p .ok)), ap mag (bits-back (d .result) (d .ok))))
-
-returns : tie.Need-returns
-unfolding thresholdOf
-returns c =
-    let x = c .before .before .before .before .before .scaled in
-    let y = c .before .before .before .before .scaled2 in
-    let p = c .before .before .before .plus in
-    let d = c .before .before .signed in
-    let s = c .before .plus2 in
-    c .at-least-zero .ensures
-    ∙ rw (bits-back (s .result) (s .ok), s .ensures .0, bits-back (p .result) (p .ok), p .ensures .0, bits-back (x .result) (x .ok), bits-back (y .result) (y .ok), bits-back (d .result) (d .ok), x .ensures .0, y .ensures .0, d .ensures .0)
-
 pub least-spec : {M : Type 1} → statement M
-least-spec = tie.close (tie.spec scaled-requires scaled-requires-2 plus-requires signed-requires plus-requires-2 at-least-zero-requires returns)
+unfolding thresholdOf
+least-spec =
+    tie.close
+    (tie.spec
+    (λ c κs. search needs) (λ c κs. search needs) (λ c κs. search needs)
+    -- returns
+    (λ c. let z = c .before .before .sum in
+    c .divided .ensures ∙ least-divided (sumOf _ _ _) (c .before .before .before .args .w .e) (c .before .before .before .pre .0) (c .before .at-least-zero .ensures .0 ∙ ap leastOf (bits-back (z .result) (z .ok) ∙ z .ensures .0))))

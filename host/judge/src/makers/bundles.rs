@@ -2,7 +2,7 @@
 
 use crate::bench::Bench;
 use crate::dice::Dice;
-use crate::model::{read, Bundle, Configuration, Model, Outline};
+use crate::model::{read, Bundle, Configuration, Edition, Model, Outline};
 use macaroosh::calls::{Answer, Step};
 use macaroosh::{Form, ECHO};
 
@@ -11,8 +11,9 @@ pub fn little_endian(number: usize) -> [u8; 2] {
     [(number % 256) as u8, (number / 256 % 256) as u8]
 }
 
-/// A table part without a fault.
+/// A table part without a fault, of either edition.
 pub fn table(dice: &mut Dice) -> Vec<u8> {
+    let edition = if dice.once_in(2) { Edition::First } else { Edition::Second };
     let (states, rules, types, factor) =
         (dice.between(1, 16), dice.between(1, 64), dice.between(1, 4), dice.between(1, 8));
     let mut part = Vec::new();
@@ -31,13 +32,22 @@ pub fn table(dice: &mut Dice) -> Vec<u8> {
             } else {
                 part.extend([dice.one_of(&[0, 0, 1, 255]), dice.one_of(&[0, 1, 255]), dice.one_of(&[0, 0, 1, 2, 254])]);
             }
+            if edition == Edition::Second {
+                part.push(divisor(dice));
+            }
         }
     }
     let (all, of_rules) = (part.len(), part.len() - 2 * states);
     part.extend(little_endian(all));
     part.extend(little_endian(of_rules));
-    part.extend([states as u8, rules as u8, types as u8, factor as u8]);
+    part.extend([states as u8, rules as u8, edition.types_byte(types) as u8, factor as u8]);
     part
+}
+
+/// An e that a table may have, mostly a small one, so that some thresholds can be met.
+pub fn divisor(dice: &mut Dice) -> u8 {
+    let any = dice.between(1, 8) as u8;
+    dice.one_of(&[1, 2, 2, 3, any])
 }
 
 // Two states that a rule may join: nothing is forgotten, and at most one type is new.
@@ -213,27 +223,73 @@ pub fn faulty_table(dice: &mut Dice) -> Vec<u8> {
     part
 }
 
-fn spoil_table(dice: &mut Dice, part: &mut [u8]) {
+/// Types bytes at the edges of both editions, and some that have an edge in their lowest bits.
+pub const TYPES_BYTES: [u8; 11] = [0, 4, 5, 15, 16, 17, 20, 21, 32, 36, 255];
+
+/// Divisors at the edges of what a table may have, and far from them.
+pub const DIVISORS: [u8; 7] = [0, 1, 8, 9, 127, 128, 255];
+
+fn spoil_table(dice: &mut Dice, part: &mut Vec<u8>) {
     let trailer = part.len() - 8;
     // A count may be spoilt already.
     let states = usize::from(part[trailer + 4]).clamp(1, 16).min(trailer / 2);
-    let types = usize::from(part[trailer + 6]).clamp(1, 4);
-    match dice.below(12) {
+    let (edition, types) = Edition::of(part[trailer + 6].into());
+    let types = types.clamp(1, 4);
+    let size = Model.rule_size(edition, types);
+    // Often the first rule, so that one rule has two faults.
+    let rules = ((trailer - 2 * states) / size).max(1);
+    let rule = 2 * states + size * if dice.once_in(2) { 0 } else { dice.below(rules) };
+    match dice.below(16) {
         // A count or k.
         0 => part[trailer + dice.between(4, 7)] = dice.one_of(&[0, 5, 9, 17, 65, 255]),
+        // The types byte.
+        1 => part[trailer + 6] = dice.one_of(&TYPES_BYTES),
         // A distance.
-        1 => part[trailer + dice.below(4)] ^= 1 << dice.below(8),
+        2 => part[trailer + dice.below(4)] ^= 1 << dice.below(8),
         // No state is initial.
-        2..=3 => (0..states).for_each(|s| part[2 * s] &= 2),
+        3 => (0..states).for_each(|s| part[2 * s] &= 2),
         // Flags or the mask of a state, so that a rule may forget types or send two.
-        4..=7 => part[dice.below(2 * states)] = dice.below(1 << (types + 1)) as u8,
+        4..=8 => part[dice.below(2 * states)] = dice.below(1 << (types + 1)) as u8,
+        // Rules as long as those of the other edition, with distances to them.
+        9 => cut_as_the_other(part, states, types, edition),
+        // An e.
+        10..=11 if edition == Edition::Second => put(part, rule + 5 + 4 * dice.below(types), dice.one_of(&DIVISORS)),
+        // Ends between which a type is forgotten, or two are sent, if a state has sent so many, or no ends; perhaps an e besides.
+        12..=13 => {
+            let most = (0..states).max_by_key(|s| part[2 * s + 1].count_ones()).unwrap_or(0) as u8;
+            let [from, to] = [[most, 0], [0, most], [0, most], [states as u8, 0]][dice.below(4)];
+            put(part, rule, from);
+            put(part, rule + 1, to);
+            if edition == Edition::Second && dice.once_in(2) {
+                put(part, rule + 5 + 4 * dice.below(types), dice.one_of(&DIVISORS));
+            }
+        }
         // An end of a rule.
-        _ => {
-            let rule = dice.below((trailer - 2 * states) / (2 + 3 * types));
-            let at = 2 * states + rule * (2 + 3 * types) + dice.below(2);
-            part[at] = dice.below(states + 2) as u8;
+        _ => put(part, rule + dice.below(2), dice.below(states + 2) as u8),
+    }
+}
+
+// A byte of the part, if there is one.
+fn put(part: &mut [u8], at: usize, byte: u8) {
+    if let Some(there) = part.get_mut(at) {
+        *there = byte;
+    }
+}
+
+// The rules with their e cut out, or with one put in, under the types byte of before.
+fn cut_as_the_other(part: &mut Vec<u8>, states: usize, types: usize, edition: Edition) {
+    let (records, trailer) = part.split_at(part.len() - 8);
+    let (of_states, of_rules) = records.split_at(2 * states);
+    let mut rules = Vec::new();
+    for rule in of_rules.chunks_exact(Model.rule_size(edition, types)) {
+        rules.extend(&rule[..2]);
+        match edition {
+            Edition::First => rule[2..].chunks(3).for_each(|sum| rules.extend([sum, &[1]].concat())),
+            Edition::Second => rule[2..].chunks(4).for_each(|group| rules.extend(&group[..3])),
         }
     }
+    let distances = [of_states.len() + rules.len(), rules.len()].map(little_endian).concat();
+    *part = [of_states, &rules, &distances, &trailer[4..]].concat();
 }
 
 /// Bytes of no meaning.

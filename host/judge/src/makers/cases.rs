@@ -26,7 +26,8 @@ pub fn cases() -> Vec<Case> {
     let all = [
         of("echo-w", false, w()),
         of("echo-4096", false, echo()),
-        of("wide-4096", false, wide()),
+        of("wide-4096", false, wide(table)),
+        of("divided-4096", false, wide(divided)),
         of("none-leaves", true, none_leaves()),
         of("none-met", true, none_met()),
         of("none-waits", true, none_waits()),
@@ -45,8 +46,11 @@ fn echo() -> Vec<u8> {
     walked(&[], &[1; 64], [64, 21, 0, 0])
 }
 
+// What makes a table part of states and of rules as the first edition has them.
+type Maker = fn(Vec<[u8; 2]>, Vec<Vec<u8>>) -> Vec<u8>;
+
 // The largest sizes: 16 states, 64 rules, T = 4, n = 64, f = 21, 4,096 steps.
-fn wide() -> Vec<u8> {
+fn wide(table: Maker) -> Vec<u8> {
     // Three states for each number of types sent, and a fourth for all of them.
     let level = |state: usize| (state / 3).min(4);
     let states = (0..16).map(|s| [u8::from(level(s) == 0) + 2 * u8::from(level(s) == 4), (1 << level(s)) - 1]);
@@ -99,6 +103,24 @@ fn table(states: Vec<[u8; 2]>, rules: Vec<Vec<u8>>) -> Vec<u8> {
     let (of_states, of_rules) = (states.concat(), rules.concat());
     let distances = [little_endian(of_states.len() + of_rules.len()), little_endian(of_rules.len())];
     [&of_states, &of_rules, &distances.concat()[..], &[states.len() as u8, rules.len() as u8, 4, 3]].concat()
+}
+
+// The same in the second edition with the same thresholds: each sum is multiplied by its divisor, and as much is taken off as
+// rounding up puts on again.
+fn divided(states: Vec<[u8; 2]>, rules: Vec<Vec<u8>>) -> Vec<u8> {
+    let group = |(sum, at): (&[u8], usize)| {
+        let e = (at % 8 + 1) as u8;
+        let [a, b, d] = [sum[0], sum[1], sum[2]].map(|byte| byte.wrapping_mul(e));
+        [a, b, d.wrapping_sub(e - 1), e]
+    };
+    let rules = rules.iter().enumerate().map(|(r, rule)| {
+        let groups: Vec<[u8; 4]> = rule[2..].chunks(3).zip(r..).map(group).collect();
+        [&rule[..2], &groups.concat()].concat()
+    });
+    let mut part = table(states, rules.collect());
+    let types_byte = part.len() - 2;
+    part[types_byte] += 16;
+    part
 }
 
 // The front and the starts with 4,096 steps that the model accepts, each with a receipt where one is possible.

@@ -2,7 +2,7 @@
 //! that a step writes. The model has accepted every step.
 
 use crate::makers::bundles::{closed, in_form, little_endian};
-use crate::model::{read, Bundle, Model, Outline};
+use crate::model::{read, Bundle, Edition, Model, Outline};
 use macaroosh::calls::Step;
 use macaroosh::{Form, ECHO};
 
@@ -112,16 +112,19 @@ const SENDS: u8 = 1;
 const STAYS_AFTER: u8 = 2;
 const SENDS_MORE: u8 = 3;
 
-// A table part with those rules, of k = 1; every threshold is 0, so that all are looked at.
+// A table part with those rules, of k = 1; every threshold is 0, so that all are looked at. One type is of the first edition and
+// several are of the second, since a step costs the same in both.
 fn table(types: usize) -> Vec<u8> {
+    let edition = if types > 1 { Edition::Second } else { Edition::First };
+    let nothing_asked: &[u8] = if types > 1 { &[0, 0, 0, 8] } else { &[0, 0, 0] };
     let mut states = vec![[1, 0], [0, 1]];
     let mut ends = vec![[0, 0], [0, 1], [1, 1]];
     if types > 1 {
         states.push([0, 1 | 1 << (types - 1)]);
         ends.push([1, 2]);
     }
-    let rules: Vec<u8> = ends.iter().flat_map(|&ends| [ends.to_vec(), vec![0; 3 * types]].concat()).collect();
+    let rules: Vec<u8> = ends.iter().flat_map(|&ends| [ends.to_vec(), nothing_asked.repeat(types)].concat()).collect();
     let distances = [little_endian(2 * states.len() + rules.len()), little_endian(rules.len())].concat();
-    let counts = [states.len() as u8, ends.len() as u8, types as u8, 1];
+    let counts = [states.len(), ends.len(), edition.types_byte(types), 1].map(|count| count as u8);
     [&states.concat(), &rules, &distances, &counts[..]].concat()
 }

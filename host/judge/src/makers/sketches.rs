@@ -4,7 +4,7 @@
 use crate::dice::Dice;
 use crate::drawings::{Drawing, Text};
 use crate::makers::bundles;
-use crate::model::{read_table, Model, Rule};
+use crate::model::{read_table, Coefficients, Edition, Model, Rule};
 
 /// A table part of any kind.
 pub fn table(dice: &mut Dice) -> Vec<u8> {
@@ -59,9 +59,11 @@ fn sound(dice: &mut Dice) -> Drawing {
     let table = read_table(&bundles::table(dice)).expect("a table without a fault");
     let mut drawing = Drawing::of(&table);
     if dice.once_in(2) {
-        for number in drawing.rules.iter_mut().flat_map(|rule| &mut rule.coefficients).flatten() {
-            let any = dice.below(256) as u8 as i8;
-            *number = [any, any, 127, -128, 100, -100, 10, -10][dice.below(8)];
+        for coefficients in drawing.rules.iter_mut().flat_map(|rule| &mut rule.coefficients) {
+            for number in [&mut coefficients.a, &mut coefficients.b, &mut coefficients.d] {
+                let any = dice.below(256) as u8 as i8;
+                *number = [any, any, 127, -128, 100, -100, 10, -10][dice.below(8)];
+            }
         }
     }
     drawing
@@ -70,30 +72,41 @@ fn sound(dice: &mut Dice) -> Drawing {
 // A number that the form allows and a table perhaps not.
 fn spoil(dice: &mut Dice, drawing: &mut Drawing) {
     let any = |dice: &mut Dice, few: usize| if dice.once_in(4) { dice.below(256) } else { dice.below(few) };
-    match dice.below(12) {
+    match dice.below(15) {
         0 => {
-            drawing.types = [0, 5, 6, 40][dice.below(4)];
-            drawing.rules.iter_mut().for_each(|rule| rule.coefficients.resize(drawing.types, [1, -1, 0]));
+            drawing.types_byte = usize::from(dice.one_of(&[&bundles::TYPES_BYTES[..], &[6, 40]].concat()));
+            let (edition, types) = drawing.edition();
+            drawing.rules.iter_mut().for_each(|rule| rule.coefficients.resize(types, Coefficients::whole([1, -1, 0])));
+            if edition == Edition::First {
+                all_divisors(drawing).for_each(|e| *e = 1);
+            }
         }
         1 => drawing.factor = [0, 9, 255][dice.below(3)],
         2 => drawing.states.resize([0, 17, 255, 256][dice.below(4)], [0, 0]),
         3 => {
             // 256 and some: as many as a byte can't tell from some.
-            let wait = Rule { from: 0, to: 0, coefficients: vec![[0; 3]; drawing.types] };
+            let wait = Rule { from: 0, to: 0, coefficients: vec![Coefficients::whole([0; 3]); drawing.edition().1] };
             drawing.rules.resize([0, 65, 256 + drawing.rules.len()][dice.below(3)], wait);
         }
         // No state is initial.
         4 => drawing.states.iter_mut().for_each(|state| state[0] &= 2),
         5..=8 => {
             let at = dice.below(drawing.states.len());
-            let mask = any(dice, 1 << drawing.types.min(4));
+            let mask = any(dice, 1 << drawing.edition().1.min(4));
             let flags = any(dice, 4);
             if let Some(state) = drawing.states.get_mut(at) {
                 *state = [flags as u8, mask as u8];
             }
         }
+        9..=11 if drawing.edition().0 == Edition::Second => {
+            // Often in the first rule, so that one rule has two faults.
+            let count = all_divisors(drawing).count();
+            let at = if dice.once_in(2) { 0 } else { dice.below(count) };
+            let other = dice.one_of(&bundles::DIVISORS);
+            all_divisors(drawing).skip(at).take(1).for_each(|e| *e = other);
+        }
         _ => {
-            let at = dice.below(drawing.rules.len());
+            let at = if dice.once_in(2) { 0 } else { dice.below(drawing.rules.len()) };
             let ends = [any(dice, drawing.states.len() + 1), any(dice, drawing.states.len() + 1)];
             if let Some(rule) = drawing.rules.get_mut(at) {
                 rule.from = ends[0];
@@ -101,6 +114,11 @@ fn spoil(dice: &mut Dice, drawing: &mut Drawing) {
             }
         }
     }
+}
+
+// Every e, rule by rule.
+fn all_divisors(drawing: &mut Drawing) -> impl Iterator<Item = &mut u8> {
+    drawing.rules.iter_mut().flat_map(|rule| &mut rule.coefficients).map(|coefficients| &mut coefficients.e)
 }
 
 // The tokens with any blanks before, between and after them, few or many.

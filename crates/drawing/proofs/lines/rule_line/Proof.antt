@@ -10,26 +10,18 @@ pub rule-line-spec : {M : Type 1} → statement M
 rule-line-spec =
     tie.close
     (tie.spec
-    (λ c κs. search needs) (λ c. search needs) (λ c κs. search needs) (λ c. search needs) (λ c. search needs)
-    (λ c κs. search needs)
-    -- add-t14
-    (λ c. let label = c .before .before .before in let follow = label .before .before .before .before in let ends = follow .before .before .before .before in
-    let start = ends .before .before .before .before in
-    omega (arith, start .pre .0, start .pre .1, start .pre .3 .bytes-fit, start .pre .3 .lines-fit, start .pre .3 .few, start .good .0 .1))
-    -- add-t17
-    (λ c. let label = c .before .before .before .before in let follow = label .before .before .before .before in let ends = follow .before .before .before .before in
-    let start = ends .before .before .before .before in
-    omega (arith, start .pre .0, start .pre .1, start .pre .3 .bytes-fit, start .pre .3 .lines-fit, start .pre .3 .few, start .good .0 .1))
-    -- mul-t18
-    (λ c. let label = c .before .before .before .before .before in let follow = label .before .before .before .before in
-    let ends = follow .before .before .before .before in let start = ends .before .before .before .before in
-    omega (arith, start .pre .0, start .pre .1, start .pre .3 .bytes-fit, start .pre .3 .lines-fit, start .pre .3 .few, start .good .0 .1))
+    (λ c κs. search needs) (λ c. search needs) (λ c κs. search needs)
+    -- weight-bytes-requires
+    (λ c κs. let start = c .before .before .before .before .before .before .before .before in omega (arith, start .pre .3 .few))
+    (λ c κs. search needs) (λ c. search needs) (λ c κs. search needs)
+    -- add-t18
+    (λ c. let start = c .before .before .before .before .before .before .before .before .before .before .before .before .before .before .before .before in omega (arith, start .pre .0, start .pre .1, start .pre .3 .bytes-fit, start .pre .3 .lines-fit, start .good .0 .1))
     -- add-t19
-    (λ c. let label = c .before .before .before .before .before in let follow = label .before .before .before .before in
-    let ends = follow .before .before .before .before in let start = ends .before .before .before .before in
-    omega (arith, start .pre .0, start .pre .1, start .pre .3 .bytes-fit, start .pre .3 .lines-fit, start .pre .3 .few, start .good .0 .1))
+    (λ c. let start = c .before .before .before .before .before .before .before .before .before .before .before .before .before .before .before .before .before in omega (arith, start .pre .0, start .pre .1, start .pre .3 .bytes-fit, start .pre .3 .lines-fit, start .good .0 .1))
+    -- add-t20
+    (λ c. let start = c .before .before .before .before .before .before .before .before .before .before .before .before .before .before .before .before .before in omega (arith, start .pre .0, start .pre .1, start .pre .3 .bytes-fit, start .pre .3 .lines-fit, start .good .0 .1, c .before .before .before .before .before .before .before .before .weight-bytes .ensures .1))
     (λ c. search needs)
     -- returns
-    (λ c. let label = c .before .before .before .before .before in let follow = label .before .before .before .before in
+    (λ c. let label = c .before .before .before .before in let shape = label .before .before .before in let follow = shape .before .before in
     let ends = follow .before .before .before .before in let start = ends .before .before .before .before in
-    rule-read _ _ (start .pre .1) (start .pre .3) (ends .ends .ensures) (follow .follow .ensures) refl (label .label .ensures)))
+    rule-read _ _ (start .pre .1) (start .pre .3) (ends .ends .ensures) (follow .follow .ensures) refl (shape .before .weight-bytes .ensures .0) (shape .of-rule .ensures .0) (label .label .ensures)))

@@ -1,0 +1,4 @@
+pub mod Outline
+pub mod Drawings
+pub mod Logs
+pub mod Divisors

@@ -1,0 +1,46 @@
+-- Each figure is computed from the definitions.
+use mathlib.Core.Path.{refl}
+use Rattle.senders.specs.Tally.{count, some, every, least}
+use Rattle.senders.specs.Set.{mem, insert}
+use Rattle.threshold.specs.Threshold.{signedByte, sumOf, roundedUp, thresholdOf}
+use Rattle.fault.specs.Fault.{_if_else_, _▹_, firstFault}
+use Rattle.layout.specs.Layout.{typesIn, typeBytes, weightBytes, divisorAt, weightsAt, weightsOf}
+use Rattle.table.specs.Table.{ruleAt, ruleOf}
+use Rattle.table.specs.Refusals.{countsOutside, tooShort, countsOff, distancesOff, stateOff, noInitial, noState, divisorOff, forgets, sendsTwo, stateFault, ruleFault, recordsFault, tableFault}
+use Rattle.bundle.specs.Bundle.{frontLength, tableInUse, startsOf, stepsOf, levelOf}
+use Rattle.bundle.specs.Refusals.{noTrailer, outOfBundle, notAdmitted, stepsOff, notInitial, startFault, scheduleFault, faultWith}
+use Rattle.paper.specs.Words.{size, cellAt, sentAt, state, cell, sent, hear, tell, start}
+use Rattle.paper.specs.Form.{wide, slot, bump, coll, shown}
+use Rattle.paper.specs.Step.{heard, stepped, malformed, notInTransit, notMet, stepFault}
+use Rattle.schedule.specs.Records.{stepsIn, bytesOf}
+use Rattle.agree.specs.Translation.{tagOf, tagBy, lowSender, lowest, coarser, finer, moved}
+use Rattle.rules.specs.Design.{metAt}
+use Rattle.paper.specs.Paper.{kindOf}
+use Rattle.paper.specs.Machine.{runBy, followAll}
+use Rattle.engine.specs.Entry.{ranWith, ranAnswer, runAnswer, runWords}
+use Rattle.translate.specs.Written.{rewritten, translationWith}
+use Rattle.translate.specs.Entry.{noOther, wrote, translateToAnswer, translateToBytes, usual}
+use Rattle.paper.specs.Order.{orElse, seek, tries, first, possible}
+use Rattle.first_step.specs.Entry.{afterRun, firstAnswer}
+use Rattle.figures.specs.Case.{Holds, Every}
+use Rattle.figures.specs.Outline.{oneEnough, outline}
+
+-- one of them by its name, which refutes the claim of no echo for another table
+pub one-enough-holds : Holds oneEnough
+unfolding
+    count some every mem insert signedByte sumOf roundedUp thresholdOf _if_else_ _▹_ firstFault typesIn typeBytes weightBytes divisorAt weightsAt weightsOf ruleAt tooShort countsOff distancesOff stateOff noInitial
+    noState divisorOff forgets sendsTwo ruleOf levelOf
+    stateFault ruleFault recordsFault tableFault frontLength tableInUse startsOf stepsOf noTrailer outOfBundle notAdmitted stepsOff notInitial startFault scheduleFault
+    faultWith size cellAt sentAt state cell sent hear tell start wide slot bump coll shown heard stepped malformed notInTransit notMet stepFault stepsIn kindOf runBy followAll metAt ranWith
+    ranAnswer runAnswer runWords countsOutside
+one-enough-holds = (refl, refl)
+
+pub outline-holds : Every outline
+unfolding
+    count some every mem insert signedByte sumOf roundedUp thresholdOf _if_else_ _▹_ firstFault typesIn typeBytes weightBytes divisorAt weightsAt weightsOf ruleAt tooShort countsOff distancesOff stateOff noInitial
+    noState divisorOff forgets sendsTwo ruleOf levelOf
+    stateFault ruleFault recordsFault tableFault frontLength tableInUse startsOf stepsOf noTrailer outOfBundle notAdmitted stepsOff notInitial startFault scheduleFault
+    faultWith size cellAt sentAt state cell sent hear tell start wide slot bump coll shown heard stepped malformed notInTransit notMet stepFault stepsIn kindOf runBy followAll metAt ranWith
+    ranAnswer runAnswer runWords countsOutside
+    tagOf tagBy lowSender lowest least bytesOf rewritten coarser finer moved translationWith noOther wrote translateToAnswer translateToBytes usual orElse seek possible tries first afterRun firstAnswer
+outline-holds = (refl, (refl, (refl, (refl, (refl, (refl, ((refl, refl), ((refl, refl), ((refl, refl), ((refl, refl), ((refl, refl), ((refl, refl), ((refl, refl), ((refl, refl), ((refl, refl), (refl, (refl, (refl, (refl, (refl, ((refl, refl), ((refl, refl), ((refl, refl), ((refl, refl), ((refl, refl), (refl, (refl, (refl, ((refl, refl), ((refl, refl), ((refl, refl), ((refl, refl), ((refl, refl), ((refl, refl), (refl, ((refl, refl), ((refl, refl), ((refl, refl), (refl, ((refl, refl), ((refl, refl), ((refl, refl), ((refl, refl), ((refl, refl), ((refl, refl), ((refl, refl), (refl, (refl, (refl, ((refl, refl), ((refl, refl), ((refl, refl), (one-enough-holds, ((refl, refl), ((refl, refl), (refl, (refl, ((refl, refl), ((refl, refl), ((refl, refl), ((refl, refl), ((refl, refl), ((refl, refl), ((refl, refl), ((refl, refl), ((refl, refl), ((refl, refl), ((refl, refl), ((refl, refl), ((refl, refl), ((refl, refl), ((refl, refl), ((refl, refl), ((refl, refl), (refl, (refl, (refl, tt)))))))))))))))))))))))))))))))))))))))))))))))))))))))))))))))))))))))))))))

@@ -1,0 +1,5 @@
+pub mod Case
+pub mod Outline
+pub mod Drawings
+pub mod Logs
+pub mod Divisors
