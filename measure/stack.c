@@ -1,6 +1,6 @@
 /* The deepest stack of each exported call, its return address included: each is called on a painted stack of its own, on
- * schedule W in each form and for each form asked for, or the echo table and its drawing, or W's log, and the lowest byte that
- * lost its paint is looked up. Prints 'NAME BYTES'. */
+ * schedule W in each form and for each form asked for, or the echo table, its drawing and its second edition, or W's log, and the
+ * lowest byte that lost its paint is looked up. Prints 'NAME BYTES'. */
 #define _XOPEN_SOURCE 600
 #include "macaroosh.h"
 
@@ -38,8 +38,8 @@ static const char service_log[] =
     "board 2 rule 4 type 0 from 3\n"
     "board 2 rule 5 type 0 from 1\n";
 
-static uint8_t stack[1 << 16], out[31], text[MACAROOSH_MOST_DRAWING], table[MACAROOSH_MOST_TABLE];
-static size_t text_length;
+static uint8_t stack[1 << 16], out[31], text[MACAROOSH_MOST_DRAWING], table[MACAROOSH_MOST_TABLE], back[sizeof echo];
+static size_t text_length, table_length;
 static uint64_t words[MACAROOSH_MOST_WORDS];
 static const uint8_t *w;
 static uint64_t asked;
@@ -62,6 +62,9 @@ static void replay(void) {
     answer = macaroosh_replay(without_steps, sizeof without_steps, echo, sizeof echo, (const uint8_t *)service_log,
                               sizeof service_log - 1, out, sizeof out, words, MACAROOSH_MOST_WORDS);
 }
+
+static void to_second(void) { answer = macaroosh_to_second(echo, sizeof echo, table, sizeof table); }
+static void to_first(void) { answer = macaroosh_to_first(table, table_length, back, sizeof back); }
 
 /* How many bytes of the painted stack a call took. */
 static size_t taken(void (*call)(void)) {
@@ -98,5 +101,8 @@ int main(void) {
     text_length = macaroosh_count(answer);
     measure("macaroosh_undraw", undraw);
     measure("macaroosh_replay", replay);
+    measure("macaroosh_to_second", to_second);
+    table_length = macaroosh_count(answer);
+    measure("macaroosh_to_first", to_first);
     return 0;
 }

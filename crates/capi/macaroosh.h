@@ -88,6 +88,15 @@ uint64_t macaroosh_replay(const uint8_t *bundle, size_t bundle_length, const uin
                           const uint8_t *log, size_t log_length, uint8_t *out, size_t out_length, uint64_t *words,
                           size_t words_length);
 
+/* Writes a first-edition table part in the second edition, with e = 1 for every rule and type, to the lent bytes, of which
+ * MACAROOSH_MOST_TABLE are always enough; any schedule runs the same on both. Answers packed: refusal (1 to 9, 33, 30), place,
+ * bytes written. Any refusal leaves the bytes as they were. Bytes past the written ones never change. */
+uint64_t macaroosh_to_second(const uint8_t *table, size_t table_length, uint8_t *out, size_t out_length);
+
+/* The way back: writes a second-edition table part whose every e is 1 in the first edition, in fewer bytes than it has. Answers
+ * packed: refusal (1 to 9, 32, 33, 30), place, bytes written. The bytes are left as above. */
+uint64_t macaroosh_to_first(const uint8_t *table, size_t table_length, uint8_t *out, size_t out_length);
+
 /* Refusals, in the order of the checks; 0 is none. The place counts from 0 what stands in brackets, and is 0 elsewhere.
  *   60 the text is no drawing [byte] (undraw)
  *   10 bundle under 8 bytes                        11 second distance plus 8 exceeds the bundle
@@ -100,7 +109,8 @@ uint64_t macaroosh_replay(const uint8_t *bundle, size_t bundle_length, const uin
  *   14 a start is not an initial state [board]     31 its own form is asked for, or none (translate_to)
  *   52 the bundle has steps or is not in message form (replay)
  *   51 a line 4,096 is there [line] (replay)       50 a line of another shape, or a number over 254 [line] (replay)
- *   30 lent output too short (run, translate, translate_to, replay: either)
+ *   32 a divisor is not 1 [rule] (to_first)        33 in that edition already (to_second, to_first)
+ *   30 lent output too short (run, translate, translate_to, to_second, to_first, replay: either)
  *   20 board not below n - f [step]                21 rule not in the table [step]
  *   22 rule does not leave the state [step]        23 type or source out of range [step]
  *   24 message not in transit [step]               25 a threshold is not met [step]

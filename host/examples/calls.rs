@@ -1,4 +1,4 @@
-use macaroosh::{draw, first_step, replay, run, run_into, translate, undraw};
+use macaroosh::{draw, first_step, replay, run, run_into, to_first, to_second, translate, undraw};
 use macaroosh::{Form, Message, Refusal, Sender, Step, ECHO, MOST_WORDS};
 
 fn main() -> Result<(), Refusal> {
@@ -43,6 +43,11 @@ fn main() -> Result<(), Refusal> {
     let drawing = draw(&ECHO)?;
     assert!(drawing.starts_with("digraph t {\nT=1; k=3;\ns0 [label=\"1 0\"];\n"));
     assert_eq!(undraw(&drawing)?, ECHO);
+
+    // The echo table in the second edition, where each rule has a divisor, 1. W runs the same on both, and back it is the same.
+    let second = to_second(&ECHO)?;
+    assert_eq!((second.len(), run(&w, &second)?), (58, run(&w, &ECHO)?));
+    assert_eq!(to_first(&second)?, ECHO);
 
     // With lent memory nothing is allocated; in message form a word is a set of senders.
     let mut words = [0; MOST_WORDS];

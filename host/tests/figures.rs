@@ -7,11 +7,11 @@ mod table;
 use judge::fast::Fast;
 use judge::makers::bundles::closed;
 use judge::model::{read, report, Bundle, Coefficients, Model, Outline};
-use judge::{Bench, Library, Replays};
+use judge::{Bench, Library, Moves, Replays};
 use macaroosh::calls::{Answer, First, Step};
 use macaroosh::{Form, Refusal, ECHO, MOST_BYTES};
 use reporter::reported;
-use table::{case, cases};
+use table::{case, cases, moves, Moved};
 
 const BENCHES: [(&str, &dyn Bench); 3] = [("model", &Model), ("library", &Library), ("fast", &Fast)];
 
@@ -154,6 +154,27 @@ fn logs_are_replayed_as_the_table_says() {
                 assert_eq!(answer, log.answer, "{about}");
                 assert_eq!(out, [&makes[..], &vec![0xAA; 99 - makes.len()]].concat(), "{about}");
                 assert_eq!(lent, [&words[..], &vec![u64::MAX; 12 - words.len()]].concat(), "{about}");
+            }
+        }
+    }
+}
+
+#[test]
+fn tables_are_moved_as_the_table_says() {
+    let movers: [(&str, &dyn Moves); 2] = [("model", &Model), ("library", &Library)];
+    let all = moves();
+    assert!(all.len() > 10, "the lines are not read: {}", all.len());
+    for Moved { to, table, answer: expected, writes } in all {
+        for (who, mover) in movers {
+            let about = format!("{who}: to the {} edition, {table:02x?}", to.name());
+            let mut out = vec![0xAA; writes.len() + 3];
+            assert_eq!(mover.to_edition(to, &table, &mut out), expected, "{about}");
+            assert_eq!(out, [&writes[..], &[0xAA; 3]].concat(), "{about}");
+            // One byte less is too little.
+            if !writes.is_empty() {
+                let mut few = vec![9; writes.len() - 1];
+                assert_eq!(mover.to_edition(to, &table, &mut few), answer((30, 0, 0)), "{about}");
+                assert!(few.iter().all(|&byte| byte == 9), "{about}");
             }
         }
     }

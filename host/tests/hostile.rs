@@ -2,10 +2,10 @@
 //! may not be written, streams, links and signals in the middle of a write, names that write to a terminal, damaged inputs.
 
 use judge::dice::{each_seed, seeds, Dice};
-use judge::makers::{bundles, logs, sketches};
+use judge::makers::{bundles, logs, shelf, sketches};
 use std::ffi::{CStr, OsStr, OsString};
 use std::fs::{self, File, OpenOptions, Permissions};
-use std::io::Write;
+use std::io::{Read, Write};
 use std::os::raw::{c_char, c_int};
 use std::os::unix::ffi::{OsStrExt, OsStringExt};
 use std::os::unix::fs::{symlink, FileTypeExt, MetadataExt, PermissionsExt};
@@ -673,7 +673,7 @@ fn values_may_stand_after_a_sign() {
     assert_eq!((got.status.code(), text(&got.stdout)), (Some(0), RAN), "{}", text(&got.stderr));
     let wrong = [
         (&["translate", "x", "--to=round"][..], "there is no form 'round'"),
-        (&["translate", "x", "--to="], "--to needs a form or step after it"),
+        (&["translate", "x", "--to="], "--to needs a form, edition or step after it"),
         (&["run", "x", "--standing="], "--standing needs a file after it"),
         (&["translate", "x", "--to=plain", "--to", "plain"], "--to is given twice"),
         (&["run", "x", "--plain=yes"], "--plain takes no value"),
@@ -721,7 +721,13 @@ fn bytes_are_not_written_to_a_terminal() {
         command.args(words(first, paths)).stdin(Stdio::null()).stdout(end.try_clone().expect("its other end"));
         command.stderr(Stdio::piped()).spawn().and_then(Child::wait_with_output).expect("the program starts")
     };
-    for (first, path) in [(&["translate"][..], &w), (&["undraw"], &dot), (&["draw", "--png"], &table)] {
+    let of_bytes: [(&[&str], &PathBuf); 4] = [
+        (&["translate"], &w),
+        (&["undraw"], &dot),
+        (&["draw", "--png"], &table),
+        (&["edition", "--to", "second"], &table),
+    ];
+    for (first, path) in of_bytes {
         mistake(&asked(first, &[path]), "give -o FILE");
         let got = asked(first, &[path, Path::new("-o"), &out]);
         assert_eq!(got.status.code(), Some(0), "{}", text(&got.stderr));
@@ -731,12 +737,55 @@ fn bytes_are_not_written_to_a_terminal() {
     }
 }
 
+// What a person at a terminal sees on standard error of a command.
+fn seen_at_a_terminal(words: &[OsString]) -> String {
+    let (mut person, end) = terminal();
+    let mut command = program();
+    command.args(words).stdin(Stdio::null()).stdout(Stdio::null()).stderr(end);
+    command.status().expect("the program starts");
+    // Its end is closed with the command; what was written is read first.
+    drop(command);
+    let (mut seen, mut some) = (Vec::new(), [0; 4_096]);
+    while let Some(count) = person.read(&mut some).ok().filter(|&count| count > 0) {
+        seen.extend(&some[..count]);
+    }
+    String::from_utf8(seen).expect("text")
+}
+
+#[test]
+fn how_far_a_shelf_is_moved_is_shown_at_a_terminal() {
+    let (room, to) = (room("progress"), ["edition", "--to", "second", "--into"]);
+    let paths: Vec<PathBuf> = (10..25).map(|i| room.join(i.to_string())).collect();
+    let [few, many] = ["few", "many"].map(|name| {
+        fs::create_dir(room.join(name)).expect("a folder");
+        room.join(name)
+    });
+    for path in &paths {
+        fs::copy(example("echo.table"), path).expect("a table");
+    }
+    fs::copy(example("majority.table"), &paths[3]).expect("a table");
+    let asked = |folder: &Path, paths: &[PathBuf]| {
+        let all: Vec<&Path> = [folder].into_iter().chain(paths.iter().map(PathBuf::as_path)).collect();
+        seen_at_a_terminal(&words(&to, &all))
+    };
+    let few = asked(&few, &paths[5..]);
+    assert_eq!(few, "10 moved to the second edition, 0 refused\r\n");
+    let many = asked(&many, &paths);
+    let shown: Vec<&str> = many.split('\r').map(str::trim_end).filter(|line| !line.is_empty()).collect();
+    let far = |from: usize, to: usize| (from..=to).map(|done| format!("{done} of 15 tables")).collect::<Vec<_>>();
+    let refused = format!("'{}': refused 33", paths[3].display());
+    assert!(shown[4].starts_with(&refused), "{shown:?}");
+    assert_eq!(shown[..4], far(0, 3));
+    assert_eq!(shown[5..16], far(4, 14));
+    assert_eq!(shown[16], "14 moved to the second edition, 1 refused");
+}
+
 // A bundle, a table, a drawing or a log with up to four places flipped, cut or filled in.
 fn damaged(seed: u64) -> Vec<u8> {
     let dice = &mut Dice::new(seed);
     let mut bytes = match seed % 4 {
         0 => bundles::any(dice),
-        1 => sketches::table(dice),
+        1 => shelf::any(dice),
         2 => sketches::text(dice),
         _ => {
             let replay = logs::any(dice);
@@ -764,7 +813,7 @@ fn damaged(seed: u64) -> Vec<u8> {
 
 #[test]
 fn no_damaged_input_makes_any_command_stumble() {
-    const COMMANDS: [&[&str]; 13] = [
+    const COMMANDS: [&[&str]; 16] = [
         &["run"],
         &["run", "--plain"],
         &["trace"],
@@ -778,6 +827,9 @@ fn no_damaged_input_makes_any_command_stumble() {
         &["undraw", "--plain"],
         &["log"],
         &["log", "--plain"],
+        &["edition", "--to=first"],
+        &["edition", "--to=second"],
+        &["edition", "--to=second", "--plain"],
     ];
     // As a bundle and as a log.
     const REPLAYS: [&[&str]; 4] =

@@ -4,9 +4,10 @@ mod start;
 
 use judge::dice::Dice;
 use judge::drawings::Text;
+use judge::editions::EditionOutline;
 use judge::makers::bundles::any;
-use judge::makers::sketches;
-use judge::model::{read_table, report, Model};
+use judge::makers::{shelf, sketches};
+use judge::model::{read_table, report, Edition, Model};
 use macaroosh::{Form, MOST_BYTES};
 use start::{given, program, PROGRAM};
 use std::ffi::OsStr;
@@ -510,10 +511,12 @@ fn help_is_there() {
     for words in [vec!["--help"], vec!["help"], vec!["run", "-h"]] {
         let got = asked(&words);
         assert_eq!((got.status.code(), text(&got.stderr)), (Some(0), ""));
-        for command in ["translate FILE", "draw TABLE", "undraw DRAWING"] {
+        for command in ["translate FILE", "draw TABLE", "undraw DRAWING", "edition TABLE"] {
             assert!(text(&got.stdout).contains(&format!("macaroosh {command}")));
         }
-        assert!(text(&got.stdout).contains("--to FORM"));
+        for option in ["--to FORM", "--to EDITION", "--into FOLDER"] {
+            assert!(text(&got.stdout).contains(option));
+        }
     }
     let got = asked::<&str>(&[]);
     assert_eq!((got.status.code(), text(&got.stdout)), (Some(2), ""));
@@ -538,7 +541,8 @@ fn wrong_words_are_told() {
     mistake(&["run"], "which bundle?");
     mistake(&["draw"], "which table?");
     mistake(&["undraw"], "which drawing?");
-    mistake(&["--plain"], "which command: run, trace, first, translate, draw, undraw, unpack, pack, replay or log?");
+    let all = "which command: run, trace, first, translate, draw, undraw, unpack, pack, replay, log or edition?";
+    mistake(&["--plain"], all);
     mistake(&["run", "x", "y"], "one bundle at a time: 'y' is one word too many");
     mistake(&["draw", "x", "y"], "one table at a time: 'y' is one word too many");
     mistake(&["undraw", "x", "y"], "one drawing at a time: 'y' is one word too many");
@@ -549,10 +553,10 @@ fn wrong_words_are_told() {
     mistake(&["draw", "x", "--svg", "--png"], "--svg or --png is given twice");
     mistake(&["translate", "x", "--to", "2"], "there is no form '2'; the forms are message, counting, plain");
     mistake(&["translate", "x", "--to", "Plain"], "there is no form 'Plain'; the forms are message, counting, plain");
-    mistake(&["translate", "x", "--to"], "--to needs a form or step after it");
+    mistake(&["translate", "x", "--to"], "--to needs a form, edition or step after it");
     mistake(&["translate", "x", "--to", "plain", "--to", "plain"], "--to is given twice");
-    mistake(&["run", "x", "--to", "plain"], "--to is for translate and trace alone");
-    mistake(&["draw", "x", "--to", "plain"], "--to is for translate and trace alone");
+    mistake(&["run", "x", "--to", "plain"], "--to is for translate, trace and edition alone");
+    mistake(&["draw", "x", "--to", "plain"], "--to is for translate, trace and edition alone");
     mistake(&["run", "x", "-o"], "-o needs a file after it");
     mistake(&["run", "x", "--standing"], "--standing needs a file after it");
     mistake(&["run", "x", "-o", "a", "-o", "b"], "-o is given twice");
@@ -699,14 +703,18 @@ fn no_bundle_makes_it_stumble() {
 #[test]
 fn no_table_or_text_makes_it_stumble() {
     for seed in 1..=100 {
-        let (table, drawing) = (sketches::table(&mut Dice::new(seed)), sketches::text(&mut Dice::new(seed)));
-        let cases =
-            [("draw", &table, read_table(&table).is_err()), ("undraw", &drawing, Model.table(&drawing).is_err())];
+        let (table, drawing) = (shelf::any(&mut Dice::new(seed)), sketches::text(&mut Dice::new(seed)));
+        let cases: [(&[&str], &[u8], bool); 4] = [
+            (&["draw"], &table, read_table(&table).is_err()),
+            (&["undraw"], &drawing, Model.table(&drawing).is_err()),
+            (&["edition", "--to", "first"], &table, Model.moved(&table, Edition::First).is_err()),
+            (&["edition", "--to", "second"], &table, Model.moved(&table, Edition::Second).is_err()),
+        ];
         for (command, input, refused) in cases {
-            let got = given(&[command, "-"], input);
-            assert_eq!(got.status.code(), Some(i32::from(refused)), "seed {seed}: {command}");
-            assert_eq!(text(&got.stderr).starts_with("refused "), refused, "seed {seed}: {command}");
-            assert_eq!(got.stdout.is_empty(), refused, "seed {seed}: {command}");
+            let got = given(&[command, &["-"]].concat(), input);
+            assert_eq!(got.status.code(), Some(i32::from(refused)), "seed {seed}: {command:?}");
+            assert_eq!(text(&got.stderr).starts_with("refused "), refused, "seed {seed}: {command:?}");
+            assert_eq!(got.stdout.is_empty(), refused, "seed {seed}: {command:?}");
         }
     }
 }

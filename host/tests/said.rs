@@ -814,7 +814,7 @@ fn wrong_words_are_told() {
         (&["draw", "--of", "x", "--standing", "y"], "--of draws a bundle's own table"),
         (&["run", "x", "--board", "1"], "--board and --from are for trace alone"),
         (&["first", "x", "--from", "1"], "--board and --from are for trace alone"),
-        (&["run", "x", "--to", "1"], "--to is for translate and trace alone"),
+        (&["run", "x", "--to", "1"], "--to is for translate, trace and edition alone"),
         (&["trace", "x", "--to", "plain"], "'plain' is no number of a board or a step"),
         (&["trace", "x", "--board=-1"], "'-1' is no number of a board or a step"),
         (&["trace", "x", "--from", "+1"], "'+1' is no number of a board or a step"),

@@ -5,12 +5,13 @@
 use judge::dice::{each_seed, seeds, Dice};
 use judge::makers::bundles::{any, case, without_steps};
 use judge::makers::logs::{self, Replay};
-use judge::makers::sketches;
+use judge::makers::{shelf, sketches};
 use judge::model::{read, report};
 use macaroosh::calls::{self, Answer};
 use macaroosh::parts::Parts;
 use macaroosh::terms::refusals::{self, Place};
 use macaroosh::{draw, draw_into, first_step, replay, replay_into, run, run_into};
+use macaroosh::{to_first, to_first_into, to_second, to_second_into};
 use macaroosh::{translate, translate_into, undraw, undraw_into};
 use macaroosh::{Configuration, Form, Message, Refusal, Refused, Replayed, Run, Sender, Step};
 use macaroosh::{ECHO, MOST_BYTES, MOST_DRAWING, MOST_TABLE, MOST_WORDS};
@@ -20,6 +21,7 @@ use std::fmt::Debug;
 
 const SEEDS: u64 = 3_000;
 const W: &[u8; 31] = include_bytes!("../../examples/w.bundle");
+const MAJORITY: &[u8; 58] = include_bytes!("../../examples/majority.table");
 
 // What an answer's numbers say.
 fn said(answer: Answer) -> Result<usize, Refusal> {
@@ -128,8 +130,8 @@ fn bundles_are_answered_as_by_the_raw_calls() {
     };
     let (refusals, firsts): (Vec<_>, Vec<_>) = each_seed(seeds("SEEDS", SEEDS), asked).into_iter().unzip();
     let refusals: BTreeSet<u8> = refusals.concat().into_iter().collect();
-    // 40 is the report program's own, 60 and 61 are of drawings.
-    for line in refusals::ALL.iter().filter(|line| line.number < 40) {
+    // 32 and 33 are of editions, 40 is the report program's own, 60 and 61 are of drawings.
+    for line in refusals::ALL.iter().filter(|line| line.number < 40 && !matches!(line.number, 32 | 33)) {
         assert!(refusals.contains(&line.number), "no bundle was refused with {}: {refusals:?}", line.number);
     }
     let firsts: BTreeSet<String> = firsts.into_iter().flatten().collect();
@@ -196,6 +198,31 @@ fn tables_and_texts_are_answered_as_by_the_raw_calls() {
     };
     let refusals: BTreeSet<u8> = each_seed(seeds("SEEDS", SEEDS), asked).concat().into_iter().collect();
     let expected: BTreeSet<u8> = (0..=9).chain([60, 61]).collect();
+    assert_eq!(refusals, expected);
+}
+
+// A table in the other edition by each call: with memory of its own, and lent.
+fn moves_alike(
+    table: &[u8],
+    owned: fn(&[u8]) -> Result<Vec<u8>, Refusal>,
+    typed: fn(&[u8], &mut [u8]) -> Result<usize, Refusal>,
+    raw: fn(&[u8], &mut [u8]) -> Answer,
+) -> Vec<u8> {
+    let mut out = vec![0; MOST_TABLE];
+    let moved = said(raw(table, &mut out)).map(|count| out[..count].to_vec());
+    assert_eq!(owned(table), moved);
+    lent_alike(moved.map_or(7, |table| table.len()), byte, |lent| typed(table, lent), |lent| raw(table, lent))
+}
+
+#[test]
+fn editions_are_answered_as_by_the_raw_calls() {
+    let asked = |seed| {
+        let table = shelf::any(&mut Dice::new(seed));
+        let there = moves_alike(&table, to_second, to_second_into, calls::to_second);
+        [there, moves_alike(&table, to_first, to_first_into, calls::to_first)].concat()
+    };
+    let refusals: BTreeSet<u8> = each_seed(seeds("SEEDS", SEEDS), asked).concat().into_iter().collect();
+    let expected: BTreeSet<u8> = (0..=9).chain([30, 32, 33]).collect();
     assert_eq!(refusals, expected);
 }
 
@@ -291,6 +318,11 @@ fn refusals_of_the_calls_are_told() {
     assert_eq!(run_into(W, &ECHO, &mut [0; 6]).map_err(told), Err(few.to_string()));
     let other_byte = "refused 60 at byte 3: the text is no drawing; up to there it could be one";
     assert_eq!(undraw("digit").map_err(told), Err(other_byte.to_string()));
+    let divides = "refused 32 at rule 2: the rule has a divisor other than 1, which the first edition cannot say";
+    assert_eq!(to_first(MAJORITY).map_err(told), Err(divides.to_string()));
+    let already = "refused 33: the table is in that edition already";
+    assert_eq!(to_second(MAJORITY).map_err(told), Err(already.to_string()));
+    assert_eq!(to_first(&ECHO).map_err(told), Err(already.to_string()));
     assert_eq!(run(&[], &ECHO), Err(Refused { refusal: Refusal { number: 10, place: 0 }, before: None }));
     let shape = replay(&without_steps(W), &ECHO, "board 0 rule 3\nboard 00 rule 3\n").expect_err("a leading zero");
     assert_eq!(shape.to_string(), "refused 50 at line 1: the line has another shape, or a number over 254");

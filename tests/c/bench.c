@@ -1,6 +1,6 @@
 /* The header from C: schedule W is run in each form, translated there and back and to each form, and asked for its first step,
- * as is a run that is quiet; the echo table is drawn and read back; W's log is replayed; a table with divisors is used and drawn;
- * refusals leave lent memory alone. The last line is 'N passed, M failed'. */
+ * as is a run that is quiet; the echo table is drawn and read back, and moved to the second edition and back; W's log is replayed;
+ * a table with divisors is used and drawn; refusals leave lent memory alone. The last line is 'N passed, M failed'. */
 #include "macaroosh.h"
 
 #include <stdio.h>
@@ -297,6 +297,39 @@ static void divisors(void) {
           memcmp(back, majority, sizeof majority) == 0 && all(back + sizeof majority, sizeof back - sizeof majority, 0xAA));
 }
 
+static void editions(void) {
+    uint8_t second[sizeof majority], table[MACAROOSH_MOST_TABLE], back[sizeof echo + 2];
+    uint64_t words[8] = {99, 99, 99, 99, 99, 99, 99, 99};
+    static const uint64_t w_words[] = {2, 2, 3, 0, 0, 11, 7, 99};
+    /* It is the table with divisors where those of rules 2 and 5 are 1, over the echo table's sums. */
+    memcpy(second, majority, sizeof second);
+    memcpy(second + 22, "\x01\xFF\x00\x01", 4);
+    memcpy(second + 40, "\x01\xFF\x00\x01", 4);
+    memset(table, 0xAA, sizeof table);
+    memset(back, 0xAA, sizeof back);
+    check("57 bytes are too few for the second edition", answers(macaroosh_to_second(echo, sizeof echo, table, 57), 30, 0, 0));
+    check("without its last byte it is not moved",
+          answers(macaroosh_to_second(echo, sizeof echo - 1, table, sizeof table), 2, 0, 0));
+    check("it is in the second edition already",
+          answers(macaroosh_to_second(majority, sizeof majority, table, sizeof table), 33, 0, 0));
+    check("the bytes stay", all(table, sizeof table, 0xAA));
+    check("the echo table is moved", answers(macaroosh_to_second(echo, sizeof echo, table, sizeof table), 0, 0, sizeof second));
+    check("to the byte, and none past it",
+          memcmp(table, second, sizeof second) == 0 && all(table + sizeof second, sizeof table - sizeof second, 0xAA));
+    check("W runs beside it", answers(macaroosh_run(w, sizeof w, table, sizeof second, words, 8), 0, 0, 5));
+    check("to its words", memcmp(words, w_words, sizeof words) == 0);
+    check("50 bytes are too few for the first edition", answers(macaroosh_to_first(table, sizeof second, back, 50), 30, 0, 0));
+    check("a divisor is not 1", answers(macaroosh_to_first(majority, sizeof majority, back, sizeof back), 32, 2, 0));
+    check("it is in the first edition already", answers(macaroosh_to_first(echo, sizeof echo, back, sizeof back), 33, 0, 0));
+    table[43] = 0;
+    check("a divisor of 0", answers(macaroosh_to_first(table, sizeof second, back, sizeof back), 9, 5, 0));
+    table[43] = 1;
+    check("the table back stays", all(back, sizeof back, 0xAA));
+    check("it is moved back", answers(macaroosh_to_first(table, sizeof second, back, sizeof back), 0, 0, sizeof echo));
+    check("to the same bytes again, and none past them",
+          memcmp(back, echo, sizeof echo) == 0 && all(back + sizeof echo, sizeof back - sizeof echo, 0xAA));
+}
+
 /* NULL where the length is 0: no bundle, no standing table, nothing lent. */
 static void nothing_lent(void) {
     uint64_t words[7] = {9, 9, 9, 9, 9, 9, 9};
@@ -311,6 +344,9 @@ static void nothing_lent(void) {
     check("nothing to draw", answers(macaroosh_draw(NULL, 0, out, sizeof out), 1, 0, 0));
     check("nowhere to draw", answers(macaroosh_draw(echo, sizeof echo, NULL, 0), 61, 0, 0));
     check("nothing drawn", answers(macaroosh_undraw(NULL, 0, out, sizeof out), 60, 0, 0));
+    check("nothing to move", answers(macaroosh_to_second(NULL, 0, out, sizeof out), 1, 0, 0));
+    check("nothing to move back", answers(macaroosh_to_first(NULL, 0, out, sizeof out), 1, 0, 0));
+    check("nowhere to move", answers(macaroosh_to_second(echo, sizeof echo, NULL, 0), 30, 0, 0));
     check("nothing to replay over", answers(macaroosh_replay(NULL, 0, NULL, 0, NULL, 0, out, sizeof out, words, 7), 10, 0, 0));
     check("nowhere to replay",
           answers(macaroosh_replay(without_steps, sizeof without_steps, echo, sizeof echo, NULL, 0, NULL, 0, NULL, 0), 30, 0, 0));
@@ -347,6 +383,7 @@ int main(void) {
     drawings();
     logs();
     divisors();
+    editions();
     refusals();
     nothing_lent();
     printf("%d passed, %d failed\n", passed, failed);

@@ -16,6 +16,9 @@ use Rattle.translate.specs.Entry.{translateToAnswer}
 use Rattle.translate.proofs.BoundLaws.{translate-answer-within}
 use Rattle.drawing.specs.Entry.{drawAnswer, undrawAnswer}
 use Rattle.drawing.proofs.BoundLaws.{draw-within, undraw-within}
+use Rattle.ink.proofs.GivenLaws.{GivenWithin}
+use Rattle.editions.specs.Entry.{toSecondAnswer, toFirstAnswer}
+use Rattle.editions.proofs.BoundLaws.{second-within, first-within}
 use Rattle.first_step.specs.declared.First.{First}
 use Rattle.first_step.specs.Entry.{firstAnswer}
 use Rattle.first_step.proofs.BoundLaws.{FirstWithin, first-answer-within}
@@ -66,8 +69,17 @@ run-fits b standing lent = within-fits 4096 _ (omega arith) (run-answer-within b
 translate-fits : (b standing : List ℕ) (k lent : ℕ) → Fits (translateToAnswer b standing k lent)
 translate-fits b standing k lent = within-fits mostBundle _ (omega arith) (translate-answer-within b standing k lent)
 
+given-fits : {q p n : ℕ} {a : Answer} → q < 2 ^ 8 → p < 2 ^ 24 → n < 2 ^ 32 → GivenWithin q p n a → Fits a
+given-fits h k l W = record { refusal = omega (arith, W .refusal); place = omega (arith, W .place); count = omega (arith, W .count) }
+
 draw-fits : (s : List ℕ) (lent : ℕ) → Fits (drawAnswer s lent)
-draw-fits s lent = let W = draw-within s lent in record { refusal = omega (arith, W .refusal); place = omega (arith, W .place); count = omega (arith, W .count) }
+draw-fits s lent = given-fits (omega arith) (omega arith) (omega arith) (draw-within s lent)
+
+to-second-fits : (s : List ℕ) (lent : ℕ) → Fits (toSecondAnswer s lent)
+to-second-fits s lent = given-fits (omega arith) (omega arith) (omega arith) (second-within s lent)
+
+to-first-fits : (s : List ℕ) (lent : ℕ) → Fits (toFirstAnswer s lent)
+to-first-fits s lent = given-fits (omega arith) (omega arith) (omega arith) (first-within s lent)
 
 capped-place : (p : ℕ) → (p if p below 2 ^ 24 else 2 ^ 24 - 1) < 2 ^ 24
 capped-place p = if-keeps (λ (x : ℕ). x < 2 ^ 24) p (p below 2 ^ 24) (2 ^ 24 - 1) (λ e. ltb-true p (2 ^ 24) e) (λ _. omega arith)
@@ -94,7 +106,7 @@ first-fits : (b standing : List ℕ) → FirstFits (firstAnswer b standing)
 first-fits b standing = within-first (firstAnswer b standing) (first-answer-within b standing)
 
 pub nothing-lost : NothingLost
-nothing-lost = record { answer-back = answer-back; first-back = first-back; run-fits = run-fits; translate-fits = translate-fits; draw-fits = draw-fits; undraw-fits = undraw-fits; undraw-whole = undraw-whole; replay-fits = replay-fits; first-fits = first-fits }
+nothing-lost = record { answer-back = answer-back; first-back = first-back; run-fits = run-fits; translate-fits = translate-fits; draw-fits = draw-fits; undraw-fits = undraw-fits; undraw-whole = undraw-whole; to-second-fits = to-second-fits; to-first-fits = to-first-fits; replay-fits = replay-fits; first-fits = first-fits }
 
 -- ---- the code, from what it has in hand
 pub packed-by : {x : ℕ} {a a′ : Answer} → a ≡ a′ → x ≡ packed a → x ≡ packed a′
@@ -111,6 +123,12 @@ replay-fits-by b standing log bytes words e = subst⁻¹ Fits e (replay-fits b s
 
 pub draw-fits-by : {a : Answer} (s : List ℕ) (lent : ℕ) → a ≡ drawAnswer s lent → Fits a
 draw-fits-by s lent e = subst⁻¹ Fits e (draw-fits s lent)
+
+pub to-second-fits-by : {a : Answer} (s : List ℕ) (lent : ℕ) → a ≡ toSecondAnswer s lent → Fits a
+to-second-fits-by s lent e = subst⁻¹ Fits e (to-second-fits s lent)
+
+pub to-first-fits-by : {a : Answer} (s : List ℕ) (lent : ℕ) → a ≡ toFirstAnswer s lent → Fits a
+to-first-fits-by s lent e = subst⁻¹ Fits e (to-first-fits s lent)
 
 pub undraw-fits-by : {a c : Answer} (t : List ℕ) (lent : ℕ) → a ≡ undrawAnswer t lent → c ≡ capped a → Fits c
 undraw-fits-by t lent e f = subst⁻¹ Fits (f ∙ ap capped e) (undraw-fits t lent)

@@ -11,6 +11,7 @@ use Rattle.fault.specs.declared.Answer.{Answer}
 use Rattle.engine.specs.Entry.{runAnswer}
 use Rattle.translate.specs.Entry.{translateToAnswer}
 use Rattle.drawing.specs.Entry.{drawAnswer, undrawAnswer}
+use Rattle.editions.specs.Entry.{toSecondAnswer, toFirstAnswer}
 use Rattle.first_step.specs.declared.First.{First}
 use Rattle.first_step.specs.Entry.{firstAnswer}
 use Rattle.replay.specs.Entry.{replayAnswer}
@@ -63,5 +64,7 @@ pub record NothingLost : Type 0 where
   -- a text under 2^24 bytes has no place that is capped
   pub undraw-fits : (t : List ℕ) (lent : ℕ) → Fits (capped (undrawAnswer t lent))
   pub undraw-whole : (t : List ℕ) (lent : ℕ) → 64 + length t < 2 ^ 24 → capped (undrawAnswer t lent) ≡ undrawAnswer t lent
+  pub to-second-fits : (s : List ℕ) (lent : ℕ) → Fits (toSecondAnswer s lent)
+  pub to-first-fits : (s : List ℕ) (lent : ℕ) → Fits (toFirstAnswer s lent)
   pub replay-fits : (b standing log : List ℕ) (bytes words : ℕ) → Fits (replayAnswer b standing log bytes words)
   pub first-fits : (b standing : List ℕ) → FirstFits (firstAnswer b standing)

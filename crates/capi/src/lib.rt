@@ -6,6 +6,7 @@ ghost use Rattle.fault.specs.Fault.{_if_else_};
 ghost use Rattle.engine.specs.Entry.{runAnswer, runWords};
 ghost use Rattle.translate.specs.Entry.{translateAnswer, translateBytes, translateToAnswer, translateToBytes};
 ghost use Rattle.drawing.specs.Entry.{drawAnswer, drawBytes, undrawAnswer, undrawBytes};
+ghost use Rattle.editions.specs.Entry.{toSecondAnswer, toSecondBytes, toFirstAnswer, toFirstBytes};
 ghost use Rattle.first_step.specs.Entry.{firstAnswer};
 ghost use Rattle.replay.specs.Entry.{replayAnswer, replayBytes, replayWords};
 ghost use Rattle.capi.specs.Packed.{packed, capped, Fits, packedFirst, FirstFits};
@@ -64,6 +65,24 @@ pub extern "C" fn macaroosh_undraw(text: &[u8], out: &mut [u8]) -> u64
     ensures { λ r. ⌜ now (out .exit) ≡ undrawBytes (now (text .entry)) (now (out .entry)) ⌝ }
 {
     pack(cap(drawing::undraw(text, out)))
+}
+
+// Writes a table in the second edition into the lent bytes: refusal, place, bytes written.
+#[no_mangle]
+pub extern "C" fn macaroosh_to_second(table: &[u8], out: &mut [u8]) -> u64
+    ensures { λ r. ⌜ r ≡ packed (toSecondAnswer (now (table .entry)) (length (now (out .entry)))) ⌝ }
+    ensures { λ r. ⌜ now (out .exit) ≡ toSecondBytes (now (table .entry)) (now (out .entry)) ⌝ }
+{
+    pack(editions::to_second(table, out))
+}
+
+// Writes a table in the first edition into the lent bytes: refusal, place, bytes written.
+#[no_mangle]
+pub extern "C" fn macaroosh_to_first(table: &[u8], out: &mut [u8]) -> u64
+    ensures { λ r. ⌜ r ≡ packed (toFirstAnswer (now (table .entry)) (length (now (out .entry)))) ⌝ }
+    ensures { λ r. ⌜ now (out .exit) ≡ toFirstBytes (now (table .entry)) (now (out .entry)) ⌝ }
+{
+    pack(editions::to_first(table, out))
 }
 
 // The first possible step after a bundle's schedule.

@@ -5,10 +5,10 @@ use Prim.Native.Nat.{ℕ, zero, suc, _<_, suc-le-suc}
 use native.Mathlib.Nat.{not-suc-le-zero, zero-lt-suc, le-of-suc-le-suc}
 use native.Mathlib.Decide.{ℕ-discrete}
 use lib.ListN.{length, getD}
-use Rattle.bundle.specs.Bundle.{tableInUse, correctOf, startsOf}
+use Rattle.bundle.specs.Bundle.{tOf, tableInUse, correctOf, startsOf}
 use Rattle.bundle.specs.Facts.{Read}
 use Rattle.bundle.proofs.BundleLaws.{read-by}
-use Rattle.table.specs.Table.{initialOf}
+use Rattle.rules.proofs.RuleLaws.{initial-is}
 use Rattle.paper.specs.Paper.{Design, Conf, Step, Moves, Initial}
 use Rattle.paper.specs.Words.{state, start}
 use Rattle.paper.specs.Form.{wide}
@@ -107,7 +107,7 @@ module _ (b standing : List ℕ) (R : Read (tableInUse b standing) b) where
   begins =
       let l = R .parted .starts-long in
       record {
-        pc = λ p h. ap (initialOf t) (starts-in p h) ∙ R .start p h .initial;
+        pc = λ p h. ap (d .initial) (starts-in p h) ∙ initial-is (sizesOf t b) (tOf b) t (getD (startsOf b) p 0) (R .start p h .state) ∙ R .start p h .initial;
         rcvd = λ p m hp hm. coll-init k (d .boards) (d .faulty) _ (λ i. cell-start (d .boards) (d .types) (wide k) (startsOf b) l p m i);
         sent = λ m hm. shown-init k (d .boards) (d .faulty) _ (sent-start (d .boards) (d .types) (wide k) (startsOf b) l m);
       }

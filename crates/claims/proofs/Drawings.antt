@@ -27,52 +27,24 @@ use Rattle.dot.proofs.Tokens.{draws-tokens, tokens-read}
 use Rattle.dot.proofs.TokenPlace.{exact-place}
 use Rattle.dot.proofs.Blanks.{blank-inserted}
 use Rattle.dot.proofs.Gaps.{gap-between, tokens-gap}
-use Rattle.drawing.specs.Entry.{trailerFor, tableOf, drawnFault, drawnTable, given, left, drawAnswer, drawBytes, undrawAnswer, undrawBytes}
-use Rattle.claims.specs.Drawings.{Gives, Table, ThereAndBack, NoDrawing, tableIn, Answered, SameAnswer, oneLater, Inserted, Drawings}
-use Rattle.claims.proofs.DrawnTable.{Distances, distances, own-table, sized-counts, made-records, Later, later-0, later-2, later-above, records-later}
+use Rattle.ink.specs.Ink.{given, left, Gives}
+use Rattle.ink.proofs.GivenLaws.{gives, refuses, keeps, given-kept}
+use Rattle.drawing.specs.Entry.{tableOf, drawnFault, drawnTable, drawAnswer, drawBytes, undrawAnswer, undrawBytes}
+use Rattle.claims.specs.Drawings.{Table, ThereAndBack, NoDrawing, tableIn, Answered, SameAnswer, oneLater, Inserted, Drawings}
+use Rattle.trailer.specs.Trailer.{trailerFor}
+use Rattle.trailer.proofs.TrailerLaws.{Distances, distances, own-table, sized-counts, made-records}
+use Rattle.claims.proofs.DrawnTable.{Later, later-0, later-2, later-above, records-later}
 
--- ---- bytes that are given
-module _ (v : Verdict) (w : List ℕ) where
-  -- nothing is refused
-  gives : v .number ≡ 0 → Gives (given v w) (left v w) w
-  unfolding given left _if_else_
-  gives z = record {
-    answered = λ lent h. rw (eq-eqb (v .number) 0 z, le-ltb lent (length w) h);
-    written = λ out h. rw (eq-eqb (v .number) 0 z, le-ltb (length out) (length w) h);
-    short = λ lent h. rw (eq-eqb (v .number) 0 z, lt-ltb lent (length w) h);
-    kept = λ out h. rw (eq-eqb (v .number) 0 z, lt-ltb (length out) (length w) h);
-  }
-
-  -- something is
-  refuses : (v .number ≡ 0 → ⊥) → (lent : ℕ) → given v w lent ≡ nothingDone v
-  unfolding given _if_else_
-  refuses n lent = rw (ne-eqb (v .number) 0 n)
-
-  keeps : (v .number ≡ 0 → ⊥) → (out : List ℕ) → left v w out ≡ out
-  unfolding left _if_else_
-  keeps n out = rw (ne-eqb (v .number) 0 n)
-
-  -- where the answer is a refusal, nothing is done
-  given-kept : (out : List ℕ) → (given v w (length out) .refusal ≡ 0 → ⊥) → (left v w out ≡ out) × (given v w (length out) .count ≡ 0)
-  given-kept out n =
-      elim (ℕ-discrete (v .number) 0) [
-        | no y ↦ (keeps y out, ap (λ (a : Answer). a .count) (refuses y (length out)))
-        | yes z ↦ elim (decLt (length out) (length w)) [
-          | yes l ↦ (gives z .kept out l, ap (λ (a : Answer). a .count) (gives z .short (length out) l))
-          | no y ↦ absurd (n (ap (λ (a : Answer). a .refusal) (gives z .answered (length out) (omega arith))))
-        ]
-      ]
-
-  -- the answer's number is that of v, 61 or 0
-  given-later : Later (v .number) → (lent : ℕ) → Later (given v w lent .refusal)
-  unfolding given
-  given-later h lent =
-      if-keeps (λ (a : Answer). Later (a .refusal)) (nothingDone v) (v .number differs 0) _ (λ _. h)
-      (λ _. if-keeps (λ (a : Answer). Later (a .refusal)) (nothingDone (refused 61)) (lent below length w) _ (λ _. later-above 61 (omega arith) (λ z. omega arith)) (λ _. later-0))
+-- an answer's number is that of v, 61 or 0
+given-later : (v : Verdict) (w : List ℕ) → Later (v .number) → (lent : ℕ) → Later (given 61 v w lent .refusal)
+unfolding given
+given-later v w h lent =
+    if-keeps (λ (a : Answer). Later (a .refusal)) (nothingDone v) (v .number differs 0) _ (λ _. h)
+    (λ _. if-keeps (λ (a : Answer). Later (a .refusal)) (nothingDone (refused 61)) (lent below length w) _ (λ _. later-above 61 (omega arith) (λ z. omega arith)) (λ _. later-0))
 
 -- ---- a text by what it is read as
 module _ (t : List ℕ) (o : Outcome) (e : reading t ≡ o) where
-  answers : (lent : ℕ) → undrawAnswer t lent ≡ given (drawnFault o) (drawnTable o) lent
+  answers : (lent : ℕ) → undrawAnswer t lent ≡ given 61 (drawnFault o) (drawnTable o) lent
   unfolding undrawAnswer
   answers lent = rw e
 
@@ -81,14 +53,14 @@ module _ (t : List ℕ) (o : Outcome) (e : reading t ≡ o) where
   leaves out = rw e
 
   undraw-refuses : (drawnFault o .number ≡ 0 → ⊥) → (lent : ℕ) → undrawAnswer t lent ≡ nothingDone (drawnFault o)
-  undraw-refuses n lent = answers lent ∙ refuses (drawnFault o) (drawnTable o) n lent
+  undraw-refuses n lent = answers lent ∙ refuses 61 (drawnFault o) (drawnTable o) n lent
 
   undraw-keeps : (drawnFault o .number ≡ 0 → ⊥) → (out : List ℕ) → undrawBytes t out ≡ out
-  undraw-keeps n out = leaves out ∙ keeps (drawnFault o) (drawnTable o) n out
+  undraw-keeps n out = leaves out ∙ keeps 61 (drawnFault o) (drawnTable o) n out
 
-  undraw-gives : drawnFault o .number ≡ 0 → Gives (undrawAnswer t) (undrawBytes t) (drawnTable o)
+  undraw-gives : drawnFault o .number ≡ 0 → Gives 61 (undrawAnswer t) (undrawBytes t) (drawnTable o)
   undraw-gives z =
-      let g = gives (drawnFault o) (drawnTable o) z in
+      let g = gives 61 (drawnFault o) (drawnTable o) z in
       record {
         answered = λ lent h. answers lent ∙ g .answered lent h;
         written = λ out h. leaves out ∙ g .written out h;
@@ -120,7 +92,7 @@ module _ (r : Gathered) where
 
 -- a text read as the table s, whose counts are a table's
 gives-back : (t s : List ℕ) (r : Gathered) → reading t ≡ drawn r → countsOutside (r .states) (r .rules) (typesIn (r .types)) (r .factor) ≡ false → tableOf r ≡ s → tableFault s .number ≡ 0 →
-    Gives (undrawAnswer t) (undrawBytes t) s
+    Gives 61 (undrawAnswer t) (undrawBytes t) s
 unfolding drawnTable
 gives-back t s r e h f z =
     rw f at (undraw-gives t (drawn r) e (fine-number r h ∙ ap (λ (w : List ℕ). tableFault w .number) f ∙ z))
@@ -139,7 +111,7 @@ module _ (s : List ℕ) (a : Table s) where
 
   back-from : (t : List ℕ) (l x : ℕ) → x ≡ length s - 8 →
       reading t ≡ drawn (record { types = typesByte s; factor = factorOf s; states = statesOf s; rules = rulesOf s; last = l; body = take x s }) →
-      Gives (undrawAnswer t) (undrawBytes t) s
+      Gives 61 (undrawAnswer t) (undrawBytes t) s
   unfolding tableOf
   back-from t l x w e =
       gives-back t s _ e (sized-counts s (far .sizes))
@@ -152,7 +124,7 @@ module _ (s : List ℕ) (a : Table s) where
       let o = table-read (typesByte s) (factorOf s) (statesOf s) (rulesOf s) s (omega (arith, a .all-bytes (trailerOf s + 6))) (omega (arith, z .few-factor)) (omega (arith, z .few-states))
       (a .all-bytes) (omega (arith, z .whole)) in
       record {
-        drawn = gives (tableFault s) (drawingOf s) (a .clean);
+        drawn = gives 61 (tableFault s) (drawingOf s) (a .clean);
         drawing = read-drawing (drawingOf s) _ (own-drawing .1);
         back = back-from (drawingOf s) (own-drawing .0) (length s - 8) refl (own-drawing .1);
         spaced = λ t x. back-from t (o .0) (recordsBytes (statesOf s) (rulesOf s) (typesByte s)) (omega (arith, z .whole)) (o .1 t x);
@@ -345,7 +317,7 @@ drawings = record {
   gaps = tokens-gap;
   blank-by-plan = λ p q c h b. put-in p q c (blank-inserted p q c h b);
   after-fault = λ p q u n. alike-after p n q u;
-  draw-refused = λ s. refuses (tableFault s) (drawingOf s);
-  draw-kept = λ s out. given-kept (tableFault s) (drawingOf s) out;
-  undraw-kept = λ t out. given-kept (drawnFault (reading t)) (drawnTable (reading t)) out;
+  draw-refused = λ s. refuses 61 (tableFault s) (drawingOf s);
+  draw-kept = λ s out. given-kept 61 (tableFault s) (drawingOf s) out;
+  undraw-kept = λ t out. given-kept 61 (drawnFault (reading t)) (drawnTable (reading t)) out;
 }

@@ -15,3 +15,5 @@ pub mod Drawings
 pub mod LongestDrawing
 pub mod Maxima
 pub mod Replay
+pub mod MovedTables
+pub mod Editions

@@ -14,6 +14,8 @@ one-answer = record {
   replay = λ κs a r r′ s s′ p q. (both (p .0) (q .0), both (p .1 .0) (q .1 .0), both (p .1 .1) (q .1 .1));
   draw = λ κs a r r′ s s′ p q. (both (p .0) (q .0), both (p .1) (q .1));
   undraw = λ κs a r r′ s s′ p q. (both (p .0) (q .0), both (p .1) (q .1));
+  to-second = λ κs a r r′ s s′ p q. (both (p .0) (q .0), both (p .1) (q .1));
+  to-first = λ κs a r r′ s s′ p q. (both (p .0) (q .0), both (p .1) (q .1));
   c-run = λ κs a r r′ s s′ p q. (both (p .0) (q .0), both (p .1) (q .1));
   c-translate = λ κs a r r′ s s′ p q. (both (p .0) (q .0), both (p .1) (q .1));
   c-translate-to = λ κs a r r′ s s′ p q. (both (p .0) (q .0), both (p .1) (q .1));
@@ -21,4 +23,6 @@ one-answer = record {
   c-replay = λ κs a r r′ s s′ p q. (both (p .0) (q .0), both (p .1 .0) (q .1 .0), both (p .1 .1) (q .1 .1));
   c-draw = λ κs a r r′ s s′ p q. (both (p .0) (q .0), both (p .1) (q .1));
   c-undraw = λ κs a r r′ s s′ p q. (both (p .0) (q .0), both (p .1) (q .1));
+  c-to-second = λ κs a r r′ s s′ p q. (both (p .0) (q .0), both (p .1) (q .1));
+  c-to-first = λ κs a r r′ s s′ p q. (both (p .0) (q .0), both (p .1) (q .1));
 }

@@ -16,7 +16,8 @@ use Rattle.bundle.specs.Bundle.{nOf, tOf, tableInUse}
 use Rattle.bundle.specs.Refusals.{readFault}
 use Rattle.bundle.proofs.BundleLaws.{read-by}
 use Rattle.rules.specs.Design.{metAt, thresholdFor}
-use Rattle.engine.specs.Design.{designIn}
+use Rattle.rules.proofs.RuleLaws.{met-at}
+use Rattle.engine.specs.Design.{sizesOf, designIn}
 use Rattle.claims.specs.Thresholds.{Names, Q7}
 
 divides : (s : List ℕ) (r m : ℕ) → Names s r m → Divides (typesByte s) (ruleOf s r)
@@ -35,7 +36,8 @@ met : (b standing : List ℕ) (r m c : ℕ) → readFault b standing .number ≡
     designIn b standing .met r m c ≡ leZ (sumOf (weightsFor (tableInUse b standing) r m) (nOf b) (tOf b)) (pos (c * weightsFor (tableInUse b standing) r m .e))
 met b standing r m c z h l =
     let R = read-by b standing refl z refl in
-    rw (R .all) (met-by-sum (tableInUse b standing) r m (nOf b) (tOf b) c (R .formed .rule r h .divides .some-divisor m l))
+    let t = tableInUse b standing in
+    met-at (sizesOf t b) (tOf b) t r m c h l ∙ rw (R .all) (met-by-sum t r m (nOf b) (tOf b) c (R .formed .rule r h .divides .some-divisor m l))
 
 whole : (s : List ℕ) (r m n t : ℕ) → Names s r m → Smallest (sumOf (weightsFor s r m) n t) (weightsFor s r m .e) (thresholdFor s r m n t)
 unfolding thresholdOf

@@ -18,14 +18,9 @@ use Rattle.dot.specs.Plan.{header}
 use Rattle.dot.specs.Reading.{none, nothingRead}
 use Rattle.dot.specs.Drawing.{Tokens, Drawing, Begins, Exact}
 use Rattle.dot.specs.Blanks.{reach, BetweenAt, beginsBlank, beginsDigit, endsDigit, Gap}
-use Rattle.drawing.specs.Entry.{trailerFor, drawAnswer, drawBytes, undrawAnswer, undrawBytes}
-
--- a call that answers and leaves lent bytes gives w: into any bytes that are enough, and those past it stay; into fewer nothing, with 61
-pub record Gives (answer : ℕ → Answer) (bytes : List ℕ → List ℕ) (w : List ℕ) : Type 0 where
-  pub answered : (lent : ℕ) → length w ≤ lent → answer lent ≡ record { refusal = 0; place = 0; count = length w }
-  pub written : (out : List ℕ) → length w ≤ length out → bytes out ≡ w ++ drop (length w) out
-  pub short : (lent : ℕ) → lent < length w → answer lent ≡ nothingDone (refused 61)
-  pub kept : (out : List ℕ) → length out < length w → bytes out ≡ out
+use Rattle.ink.specs.Ink.{Gives}
+use Rattle.trailer.specs.Trailer.{trailerFor}
+use Rattle.drawing.specs.Entry.{drawAnswer, drawBytes, undrawAnswer, undrawBytes}
 
 -- ---- there and back
 -- a table: bytes in which nothing is refused
@@ -35,12 +30,12 @@ pub record Table (s : List ℕ) : Type 0 where
 
 pub record ThereAndBack (s : List ℕ) : Type 0 where
   -- its drawing is written, and is one
-  pub drawn : Gives (drawAnswer s) (drawBytes s) (drawingOf s)
+  pub drawn : Gives 61 (drawAnswer s) (drawBytes s) (drawingOf s)
   pub drawing : Drawing (drawingOf s)
   -- undrawing it gives the same bytes
-  pub back : Gives (undrawAnswer (drawingOf s)) (undrawBytes (drawingOf s)) s
+  pub back : Gives 61 (undrawAnswer (drawingOf s)) (undrawBytes (drawingOf s)) s
   -- and so with any blanks between the drawing's tokens
-  pub spaced : (t : List ℕ) → Spaced (tableText (typesByte s) (factorOf s) (statesOf s) (rulesOf s) s) t → Gives (undrawAnswer t) (undrawBytes t) s
+  pub spaced : (t : List ℕ) → Spaced (tableText (typesByte s) (factorOf s) (statesOf s) (rulesOf s) s) t → Gives 61 (undrawAnswer t) (undrawBytes t) s
 
 -- ---- a text that is no drawing: 60 with its exact place, whatever the room, and no byte changes
 pub record NoDrawing (t : List ℕ) : Type 0 where
@@ -62,7 +57,7 @@ pub record Answered (t : List ℕ) (d : Drawing t) : Type 0 where
       (lent : ℕ) → undrawAnswer t lent ≡ nothingDone (tableFault (tableIn d))
   -- else the table
   pub table : countsOutside (d .states) (d .rules) (typesIn (d .types)) (d .factor) ≡ false → tableFault (tableIn d) .number ≡ 0 →
-      Gives (undrawAnswer t) (undrawBytes t) (tableIn d)
+      Gives 61 (undrawAnswer t) (undrawBytes t) (tableIn d)
   -- its trailer is always right, and it is a drawing
   pub never-1 : (lent : ℕ) → undrawAnswer t lent .refusal ≡ 1 → ⊥
   pub never-3 : (lent : ℕ) → undrawAnswer t lent .refusal ≡ 3 → ⊥

@@ -10,3 +10,4 @@ pub mod OneAnswer
 pub mod Drawings
 pub mod Maxima
 pub mod Replay
+pub mod Editions

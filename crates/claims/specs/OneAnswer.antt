@@ -12,6 +12,8 @@ use Rattle.first_step.proofs.first_step.Reads as first-step
 use Rattle.replay.proofs.replay.Reads as replay
 use Rattle.drawing.proofs.draw.Reads as draw
 use Rattle.drawing.proofs.undraw.Reads as undraw
+use Rattle.editions.proofs.to_second.Reads as to-second
+use Rattle.editions.proofs.to_first.Reads as to-first
 use Rattle.capi.proofs.macaroosh_run.Reads as c-run
 use Rattle.capi.proofs.macaroosh_translate.Reads as c-translate
 use Rattle.capi.proofs.macaroosh_translate_to.Reads as c-translate-to
@@ -19,6 +21,8 @@ use Rattle.capi.proofs.macaroosh_first_step.Reads as c-first-step
 use Rattle.capi.proofs.macaroosh_replay.Reads as c-replay
 use Rattle.capi.proofs.macaroosh_draw.Reads as c-draw
 use Rattle.capi.proofs.macaroosh_undraw.Reads as c-undraw
+use Rattle.capi.proofs.macaroosh_to_second.Reads as c-to-second
+use Rattle.capi.proofs.macaroosh_to_first.Reads as c-to-first
 
 -- two buffers as a call leaves them: a bundle and a standing table; or a table or a text, and lent bytes
 abbrev pub Two : Type 0
@@ -76,6 +80,8 @@ pub record OneAnswer : Type 0 where
   pub replay : (κs : Lfts 4) → OneLogged (replay.Post κs)
   pub draw : (κs : Lfts 2) → OneLentTwo (draw.Post κs)
   pub undraw : (κs : Lfts 2) → OneLentTwo (undraw.Post κs)
+  pub to-second : (κs : Lfts 2) → OneLentTwo (to-second.Post κs)
+  pub to-first : (κs : Lfts 2) → OneLentTwo (to-first.Post κs)
   pub c-run : (κs : Lfts 2) → OneLent (c-run.Post κs)
   pub c-translate : (κs : Lfts 2) → OneLent (c-translate.Post κs)
   pub c-translate-to : (κs : Lfts 2) → OneAsked (c-translate-to.Post κs)
@@ -83,3 +89,5 @@ pub record OneAnswer : Type 0 where
   pub c-replay : (κs : Lfts 4) → OneLogged (c-replay.Post κs)
   pub c-draw : (κs : Lfts 2) → OneLentTwo (c-draw.Post κs)
   pub c-undraw : (κs : Lfts 2) → OneLentTwo (c-undraw.Post κs)
+  pub c-to-second : (κs : Lfts 2) → OneLentTwo (c-to-second.Post κs)
+  pub c-to-first : (κs : Lfts 2) → OneLentTwo (c-to-first.Post κs)

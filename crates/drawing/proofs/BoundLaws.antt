@@ -19,29 +19,15 @@ use Rattle.dot.specs.Text.{drawingOf}
 use Rattle.dot.specs.Reading.{Outcome, drawn, fault, reading}
 use Rattle.dot.proofs.TokenPlace.{exact-place}
 use Rattle.pen.proofs.LengthLaws.{drawing-short}
-use Rattle.drawing.specs.Entry.{tableOf, drawnFault, drawnTable, given, drawAnswer, undrawAnswer}
+use Rattle.ink.proofs.GivenLaws.{GivenWithin, given-within}
+use Rattle.drawing.specs.Entry.{tableOf, drawnFault, drawnTable, drawAnswer, undrawAnswer}
 use Rattle.drawing.proofs.EntryLaws.{sized-table}
 
--- refusals go to 61, places to p, counts to n
-pub record DrawnWithin (p n : ℕ) (a : Answer) : Type 0 where
-  pub refusal : a .refusal ≤ 61
-  pub place : a .place ≤ p
-  pub count : a .count ≤ n
-
-given-within : (p n : ℕ) (v : Verdict) (w : List ℕ) (lent : ℕ) → Within 61 p v → (v .number ≡ 0 → length w ≤ n) → DrawnWithin p n (given v w lent)
-unfolding given
-given-within p n v w lent W l =
-    if-keeps (DrawnWithin p n) _ (v .number differs 0) _
-    (λ _. record { refusal = W .number; place = W .place; count = omega arith })
-    (λ e. if-keeps (DrawnWithin p n) _ (lent below length w) _
-    (λ _. record { refusal = omega arith; place = omega arith; count = omega arith })
-    (λ _. record { refusal = omega arith; place = omega arith; count = l (same _ 0 e) }))
-
-pub draw-within : (s : List ℕ) (lent : ℕ) → DrawnWithin 64 mostDrawing (drawAnswer s lent)
+pub draw-within : (s : List ℕ) (lent : ℕ) → GivenWithin 61 64 mostDrawing (drawAnswer s lent)
 unfolding drawAnswer
 draw-within s lent =
     let W = table-within s in
-    given-within 64 mostDrawing (tableFault s) (drawingOf s) lent (record { number = omega (arith, W .number); place = W .place })
+    given-within 61 61 64 mostDrawing (tableFault s) (drawingOf s) lent (omega arith) (record { number = omega (arith, W .number); place = W .place })
     (λ z. drawing-short s (sized-table s refl z))
 
 -- ---- what a text draws
@@ -60,6 +46,6 @@ module _ (t : List ℕ) where
       let p = if-passed Clean (refused 2) (countsOutside (r .states) (r .rules) (typesIn (r .types)) (r .factor)) (tableFault (tableOf r)) (λ y. omega arith) z in
       table-short (tableOf r) (sized-table (tableOf r) refl (p .1))
 
-  pub undraw-within : (lent : ℕ) → DrawnWithin (64 + length t) mostTable (undrawAnswer t lent)
+  pub undraw-within : (lent : ℕ) → GivenWithin 61 (64 + length t) mostTable (undrawAnswer t lent)
   unfolding undrawAnswer
-  undraw-within lent = given-within (64 + length t) mostTable (drawnFault (reading t)) (drawnTable (reading t)) lent (drawn-within (reading t) refl) (drawn-short (reading t))
+  undraw-within lent = given-within 61 61 (64 + length t) mostTable (drawnFault (reading t)) (drawnTable (reading t)) lent (omega arith) (drawn-within (reading t) refl) (drawn-short (reading t))

@@ -12,58 +12,34 @@ use Rattle.fault.specs.declared.Answer.{Answer}
 use Rattle.fault.specs.Tests.{_below_, _differs_}
 use Rattle.fault.specs.Fault.{refused, nothingDone}
 use Rattle.fault.proofs.FaultLaws.{if-yes, if-no}
-use Rattle.pen.specs.Pen.{stored}
-use Rattle.pen.proofs.PenLaws.{stored-more, stored-length, stored-whole, stored-nothing}
+use Rattle.ink.specs.Ink.{stored}
+use Rattle.ink.proofs.GivenLaws.{Gave, gave-refused}
+use Rattle.ink.proofs.InkLaws.{stored-more, stored-length, stored-whole, stored-nothing}
 use Rattle.layout.specs.Layout.{typesIn, ruleBytes}
 use Rattle.table.specs.Table.{mostRecords, mostTable, stateBytes}
 use Rattle.table.specs.Refusals.{countsOutside, tableFault}
 use Rattle.table.specs.Facts.{CountsFit, Sized}
 use Rattle.table.proofs.TableLaws.{well-formed, counts-by, records-short}
 use Rattle.fault.specs.Bytes.{trailerBytes}
+use Rattle.trailer.specs.Trailer.{trailerFor}
+use Rattle.trailer.proofs.TrailerLaws.{trailer-length}
 use Rattle.dot.specs.Reading.{Gathered, Outcome, drawn, fault, reading}
 use Rattle.drawing.specs.declared.Reader.{Reader}
-use Rattle.drawing.specs.Entry.{trailerFor, tableOf, drawnFault, drawnTable, given, left, undrawAnswer, undrawBytes}
+use Rattle.drawing.specs.Entry.{tableOf, drawnFault, drawnTable, undrawAnswer, undrawBytes}
 use Rattle.drawing.specs.Lines.{Known, Finished}
-
--- ---- bytes that are given
-pub record Gave (v : Verdict) (w out : List ℕ) (a : Answer) (u : List ℕ) : Type 0 where
-  pub answer : a ≡ given v w (length out)
-  pub bytes : u ≡ left v w out
-
-pub gave-refused : {v x : Verdict} {a : Answer} (w out : List ℕ) → x ≡ v → (x .number ≡ 0 → ⊥) → a ≡ nothingDone x → Gave v w out a out
-unfolding given left
-gave-refused {v} {x} w out e n f =
-    let m : (v .number differs 0) ≡ true = ap not (ne-eqb _ 0 (λ z. n (ap (λ (x : Verdict). x .number) e ∙ z))) in
-    record { answer = if-yes _ (f ∙ ap nothingDone e) refl m; bytes = if-yes _ refl refl m }
-
-module _ {v x : Verdict} (w out : List ℕ) (e : x ≡ v) (z : x .number ≡ 0) where
-  clean : (v .number differs 0) ≡ false
-  clean = ap not (eq-eqb _ 0 (ap (λ (x : Verdict). x .number) (sym e) ∙ z))
-
-  pub gave-short : {a : Answer} → length out < length w → a ≡ nothingDone (refused 61) → Gave v w out a out
-  unfolding given left
-  gave-short l f =
-      let m : (length out below length w) ≡ true = lt-ltb (length out) (length w) l in
-      record { answer = if-no _ refl clean (if-yes _ f refl m); bytes = if-no _ refl clean (if-yes _ refl refl m) }
-
-  pub gave-all : {a : Answer} {u : List ℕ} → length w ≤ length out → a ≡ record { refusal = 0; place = 0; count = length w } → u ≡ stored out 0 w → Gave v w out a u
-  unfolding given left
-  gave-all l f g =
-      let m : (length out below length w) ≡ false = le-ltb (length out) (length w) l in
-      record { answer = if-no _ refl clean (if-no _ refl m f); bytes = if-no _ refl clean (if-no _ refl m (g ∙ stored-whole out w l)) }
 
 -- ---- what a text draws
 pub record Undrew (t out : List ℕ) (a : Answer) (u : List ℕ) : Type 0 where
   pub answer : a ≡ undrawAnswer t (length out)
   pub bytes : u ≡ undrawBytes t out
 
-undrew : {t out u : List ℕ} {a : Answer} (o : Outcome) → reading t ≡ o → Gave (drawnFault o) (drawnTable o) out a u → Undrew t out a u
+undrew : {t out u : List ℕ} {a : Answer} (o : Outcome) → reading t ≡ o → Gave 61 (drawnFault o) (drawnTable o) out a u → Undrew t out a u
 unfolding undrawAnswer undrawBytes
 undrew {t} {out} o e g = record { answer = rw e (g .answer); bytes = rw e (g .bytes) }
 
 pub undrew-stuck : {t out tab : List ℕ} {g : Reader} {a : Answer} → Finished t g tab → g .stuck ≡ true → a ≡ record { refusal = 60; place = g .place; count = 0 } → Undrew t out a out
 unfolding drawnFault drawnTable
-undrew-stuck {t} {out} {tab} {g} d s f = undrew (fault (g .place)) (d .fails s) (gave-refused [] out refl (λ z. absurd (let y : _≡_ {A = ℕ} 60 0 = z in omega arith)) f)
+undrew-stuck {t} {out} {tab} {g} d s f = undrew (fault (g .place)) (d .fails s) (gave-refused 61 [] out refl (λ z. absurd (let y : _≡_ {A = ℕ} 60 0 = z in omega arith)) f)
 
 -- the counts of what was read are the reader's
 same-counts : {t out : List ℕ} {g : Reader} {o : Gathered → Outcome} (k : Known t g out o) → countsOutside (g .states) (g .rules) (typesIn (g .types)) (g .factor) ≡ countsOutside (k .read .states) (k .read .rules) (typesIn (k .read .types)) (k .read .factor)
@@ -75,7 +51,7 @@ unfolding drawnFault drawnTable
 undrew-outside {t} {out} {tab} {g} {a} {b} d s eb y f =
     let k = d .draws s in
     undrew (drawn (k .read)) (k .goes)
-    (gave-refused (tableOf (k .read)) out (if-yes _ refl (eb ∙ same-counts k) y) (λ z. absurd (let y : _≡_ {A = ℕ} 2 0 = z in omega arith)) f)
+    (gave-refused 61 (tableOf (k .read)) out (if-yes _ refl (eb ∙ same-counts k) y) (λ z. absurd (let y : _≡_ {A = ℕ} 2 0 = z in omega arith)) f)
 
 -- ---- its bytes
 -- the records that a reader has made are few bytes
@@ -83,21 +59,6 @@ pub few-records : {t tab : List ℕ} {g : Reader} {b : Bool} → Known t g tab d
 few-records {g = g} k e h =
     let c = counts-by (g .states) (g .rules) (typesIn (g .types)) (g .factor) e h in
     omega (arith, k .sum, records-short (g .states) (g .rules) (g .types) (c .few-states) (c .few-rules) (c .few-types))
-
-pub trailer-is : {n m byte k : ℕ} {a b c d e f g h all l rules : ℕ} → CountsFit n m (typesIn byte) k → byte < 256 → l ≡ ruleBytes byte → rules ≡ m * l → all ≡ stateBytes * n + rules →
-    a ≡ all % 256 → b ≡ all / 256 → c ≡ rules % 256 → d ≡ rules / 256 → e ≡ n % 256 → f ≡ m % 256 → g ≡ byte % 256 → h ≡ k % 256 →
-    a ∷ b ∷ c ∷ d ∷ e ∷ f ∷ g ∷ h ∷ [] ≡ trailerFor n m byte k
-unfolding trailerFor
-trailer-is {n} {m} {byte} {k} x lb el er ea p q u v en em eb ek =
-    let en′ : n % 256 ≡ n = omega (arith, x .few-states) in
-    let em′ : m % 256 ≡ m = omega (arith, x .few-rules) in
-    let eb′ : byte % 256 ≡ byte = omega arith in
-    let ek′ : k % 256 ≡ k = omega (arith, x .few-factor) in
-    rw (p, q, u, v, en ∙ en′, em ∙ em′, eb ∙ eb′, ek ∙ ek′, ea, er, el)
-
-trailer-length : (n m byte k : ℕ) → length (trailerFor n m byte k) ≡ trailerBytes
-unfolding trailerFor
-trailer-length n m byte k = refl
 
 -- the records and the trailer stand in their room
 pub table-stands : {t tab tab′ : List ℕ} {g : Reader} {b : Bool} (k : Known t g tab drawn) → length tab ≡ mostTable → b ≡ countsOutside (g .states) (g .rules) (typesIn (g .types)) (g .factor) → b ≡ false →
@@ -135,12 +96,12 @@ table-room {t} {tab} {tab′} {g} k e z eb h f =
 pub undrew-table : {t out tab tab′ u : List ℕ} {g : Reader} {a : Answer} {b : Bool} {n : ℕ} → Finished t g tab → g .stuck ≡ false → length tab ≡ mostTable →
     b ≡ countsOutside (g .states) (g .rules) (typesIn (g .types)) (g .factor) → b ≡ false →
     tab′ ≡ stored tab (g .made) (trailerFor (g .states) (g .rules) (g .types) (g .factor)) → n ≡ g .made + trailerBytes →
-    Gave (tableFault (take n tab′)) (take n tab′) out a u → Undrew t out a u
+    Gave 61 (tableFault (take n tab′)) (take n tab′) out a u → Undrew t out a u
 unfolding drawnFault drawnTable
 undrew-table {t} {out} {tab} {tab′} {u} {g} {a} {b} {n} d s l eb h e en f =
     let k = d .draws s in
     let z : take n tab′ ≡ tableOf (k .read) = ap (λ (x : ℕ). take x tab′) en ∙ table-stands k l eb h e in
-    let c : Gave (tableFault (tableOf (k .read))) (tableOf (k .read)) out a u = rw z at f in
+    let c : Gave 61 (tableFault (tableOf (k .read))) (tableOf (k .read)) out a u = rw z at f in
     let y : tableFault (tableOf (k .read)) ≡ drawnFault (drawn (k .read)) = if-no _ (eb ∙ same-counts k) h refl in
     undrew (drawn (k .read)) (k .goes) (rw (← y) c)
 

@@ -9,8 +9,8 @@ use lib.ListN.{length, length-append}
 use borrow.Author.Tests.{eq-eqb, ne-eqb}
 use Rattle.fault.specs.Fault.{_if_else_}
 use Rattle.fault.specs.Tests.{_below_}
-use Rattle.pen.specs.Pen.{stored}
-use Rattle.pen.proofs.PenLaws.{stored-more, stored-length}
+use Rattle.ink.specs.Ink.{stored}
+use Rattle.ink.proofs.InkLaws.{stored-more, stored-length}
 use Rattle.decimal.specs.Numbers.{text}
 use Rattle.dot.specs.declared.Shape.{Shape}
 use Rattle.dot.specs.Text.{jointAt, joint, negative}

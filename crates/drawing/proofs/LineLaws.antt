@@ -14,8 +14,8 @@ use Rattle.fault.specs.Fault.{_if_else_}
 use Rattle.fault.proofs.TestLaws.{or-none}
 use Rattle.layout.specs.Layout.{weightBytes, ruleBytes, endBytes}
 use Rattle.table.specs.Table.{stateBytes}
-use Rattle.pen.specs.Pen.{stored}
-use Rattle.pen.proofs.PenLaws.{stored-more}
+use Rattle.ink.specs.Ink.{stored}
+use Rattle.ink.proofs.InkLaws.{stored-more}
 use Rattle.decimal.specs.Numbers.{text}
 use Rattle.decimal.specs.Digits.{peeked}
 use Rattle.decimal.proofs.DigitLaws.{seen, seen-byte}

@@ -8,7 +8,7 @@ use lib.ListN.{length, drop}
 use Rattle.fault.specs.Fault.{_if_else_}
 use Rattle.decimal.specs.Numbers.{text}
 use Rattle.decimal.specs.Digits.{peeked}
-use Rattle.pen.specs.Pen.{stored}
+use Rattle.ink.specs.Ink.{stored}
 use Rattle.dot.specs.declared.Shape.{Shape}
 use Rattle.dot.specs.Text.{isBlank, jointAt}
 use Rattle.dot.specs.Plan.{Slot, cellOf, Item, gap, num, plan, bytes, numbers}

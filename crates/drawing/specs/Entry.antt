@@ -11,14 +11,12 @@ use Rattle.fault.specs.Fault.{verdict, refused, nothingDone, _if_else_}
 use Rattle.table.specs.Refusals.{countsOutside, tableFault}
 use Rattle.layout.specs.Layout.{typesIn, ruleBytes}
 use Rattle.table.specs.Table.{recordsBytes}
+use Rattle.ink.specs.Ink.{given, left}
+use Rattle.trailer.specs.Trailer.{trailerFor}
 use Rattle.dot.specs.Text.{drawingOf}
 use Rattle.dot.specs.Reading.{Gathered, Outcome, drawn, fault, reading}
 
 -- ---- the table that a text draws
--- distances to the first state and the first rule, states, rules, types byte, factor
-unfoldable pub trailerFor : ℕ → ℕ → ℕ → ℕ → List ℕ
-trailerFor n m byte k = twoBytes (recordsBytes n m byte) (twoBytes (m * ruleBytes byte) (n ∷ m ∷ byte ∷ k ∷ []))
-
 -- its records and the trailer
 unfoldable pub tableOf : Gathered → List ℕ
 tableOf r = r .body ++ trailerFor (r .states) (r .rules) (r .types) (r .factor)
@@ -32,30 +30,15 @@ unfoldable pub drawnTable : Outcome → List ℕ
 drawnTable (fault p) = []
 drawnTable (drawn r) = tableOf r
 
--- ---- bytes that are given where nothing is refused
--- the refusal; 61: lent bytes fewer than the bytes needed; or how many were written
-unfoldable pub given : Verdict → List ℕ → ℕ → Answer
-given v w lent =
-    nothingDone v if v .number differs 0 else
-    nothingDone (refused 61) if lent below length w else
-    record { refusal = 0; place = 0; count = length w }
-
--- a refusal changes no byte; the bytes past those written stay
-unfoldable pub left : Verdict → List ℕ → List ℕ → List ℕ
-left v w out =
-    out if v .number differs 0 else
-    out if length out below length w else
-    w ++ drop (length w) out
-
 -- ---- the two calls
 unfoldable pub drawAnswer : List ℕ → ℕ → Answer
-drawAnswer s lent = given (tableFault s) (drawingOf s) lent
+drawAnswer s lent = given 61 (tableFault s) (drawingOf s) lent
 
 unfoldable pub drawBytes : List ℕ → List ℕ → List ℕ
 drawBytes s out = left (tableFault s) (drawingOf s) out
 
 unfoldable pub undrawAnswer : List ℕ → ℕ → Answer
-undrawAnswer t lent = given (drawnFault (reading t)) (drawnTable (reading t)) lent
+undrawAnswer t lent = given 61 (drawnFault (reading t)) (drawnTable (reading t)) lent
 
 unfoldable pub undrawBytes : List ℕ → List ℕ → List ℕ
 undrawBytes t out = left (drawnFault (reading t)) (drawnTable (reading t)) out

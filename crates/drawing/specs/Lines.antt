@@ -6,7 +6,7 @@ use Prim.Native.Nat.{ℕ, _+_, _*_, _≤_, _<_}
 use lib.ListN.{length}
 use Rattle.fault.specs.Fault.{_if_else_}
 use Rattle.table.specs.Table.{recordsBytes}
-use Rattle.pen.specs.Pen.{stored}
+use Rattle.ink.specs.Ink.{stored}
 use Rattle.decimal.specs.Numbers.{text}
 use Rattle.dot.specs.Plan.{Item, num, one, kind, cell, plan, lines, stateLine, ruleLine, ending, name}
 use Rattle.dot.specs.Reading.{none, Gathered, put, newState, newRule, ended, Outcome, drawn, fault, reading}

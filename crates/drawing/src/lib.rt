@@ -2,12 +2,14 @@
 ghost use mathlib.Core.Path.{_≡_};
 ghost use Prim.Native.Nat.{_≤_, _<_};
 ghost use lib.ListN.{length};
-ghost use Rattle.pen.specs.Pen.{stored};
+ghost use Rattle.ink.specs.Ink.{stored};
 ghost use Rattle.layout.specs.Layout.{typesIn};
 ghost use Rattle.table.specs.Table.{mostRecords, mostTable};
 ghost use Rattle.table.specs.Refusals.{countsOutside, tableFault};
 ghost use Rattle.table.specs.Facts.{CountsFit};
-ghost use Rattle.drawing.specs.Entry.{trailerFor, given, left, drawAnswer, drawBytes, undrawAnswer, undrawBytes};
+ghost use Rattle.ink.specs.Ink.{given, left};
+ghost use Rattle.trailer.specs.Trailer.{trailerFor};
+ghost use Rattle.drawing.specs.Entry.{drawAnswer, drawBytes, undrawAnswer, undrawBytes};
 use fault::Answer;
 
 pub mod pieces; // a text read piece by piece
@@ -91,24 +93,12 @@ fn close(g: Reader, table: &mut [u8])
     requires { ⌜ (CountsFit (g .states) (g .rules) (typesIn (g .types)) (g .factor)) × (g .types < 256) × (g .made ≤ mostRecords) ⌝ }
     ensures { λ r. ⌜ now (table .exit) ≡ stored (now (table .entry)) (g .made) (trailerFor (g .states) (g .rules) (g .types) (g .factor)) ⌝ }
 {
-    let rules = fault::times(g.rules, layout::rule_bytes(g.types));
-    let all = table::STATE_BYTES * g.states + rules;
-    let trailer = [
-        fault::low(all),
-        fault::high(all),
-        fault::low(rules),
-        fault::high(rules),
-        fault::low(g.states),
-        fault::low(g.rules),
-        fault::low(g.types),
-        fault::low(g.factor),
-    ];
-    pen::put_all(table, g.made, &trailer);
+    trailer::put(table, g.made, g.states, g.rules, g.types, g.factor);
 }
 
 // The table into the lent bytes, if it is one and has room there.
 fn give(table: &[u8], out: &mut [u8]) -> Answer
-    ensures { λ r. ⌜ r ≡ given (tableFault (now (table .entry))) (now (table .entry)) (length (now (out .entry))) ⌝ }
+    ensures { λ r. ⌜ r ≡ given 61 (tableFault (now (table .entry))) (now (table .entry)) (length (now (out .entry))) ⌝ }
     ensures { λ r. ⌜ now (out .exit) ≡ left (tableFault (now (table .entry))) (now (table .entry)) (now (out .entry)) ⌝ }
 {
     let v = table::table_fault(table);
@@ -118,6 +108,6 @@ fn give(table: &[u8], out: &mut [u8]) -> Answer
     if out.len() < table.len() {
         return fault::answered(61, 0, 0);
     }
-    pen::put_all(out, 0, table);
+    ink::put_all(out, 0, table);
     fault::answered(0, 0, table.len())
 }

@@ -177,7 +177,7 @@ fn ends(text: &[u8], i: usize, v: usize, out: &mut [u8], n: usize) -> Cursor
 {
     let a = pieces::follow(text, pieces::stand(i), b">~s");
     let to = pieces::number(text, a, false);
-    let m = pen::put(out, n, pieces::byte(v));
-    pen::put(out, m, pieces::byte(to.value));
+    let m = ink::put(out, n, pieces::byte(v));
+    ink::put(out, m, pieces::byte(to.value));
     to
 }

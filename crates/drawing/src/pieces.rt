@@ -6,7 +6,7 @@ ghost use Prim.Native.Nat.{_+_, _≤_, _<_};
 ghost use lib.Dec.{eqb};
 ghost use lib.ListN.{length};
 ghost use Rattle.decimal.specs.Digits.{isDigit};
-ghost use Rattle.pen.specs.Pen.{stored, places};
+ghost use Rattle.ink.specs.Ink.{stored, places};
 ghost use Rattle.dot.specs.Text.{isBlank};
 ghost use Rattle.dot.specs.Text as texts;
 ghost use Rattle.dot.specs.Plan as plans;
@@ -218,7 +218,7 @@ fn number_at(
     ensures { λ d. ⌜ (Numbered (now (text .entry)) c j i signed d) × (now (out .exit) ≡ stored (now (out .entry)) n (d .value ∷ [])) ⌝ }
 {
     let d = number(text, joint(text, c, j, i), signed);
-    pen::put(out, n, byte(d.value));
+    ink::put(out, n, byte(d.value));
     d
 }
 

@@ -26,7 +26,9 @@ use Rattle.decimal.specs.Numbers.{decimal, signed}
 use Rattle.decimal.specs.Digits.{isDigit, goesOn}
 use Rattle.dot.specs.Text.{isBlank, written, headText, jointAt, numbersText, labelText, stateText, ruleText, statesText, rulesText, tableText, drawingOf}
 use Rattle.dot.specs.Reading.{canMinus, limit, grow, put, newState, newRule, nextState, take1, growing, whole, next, ended, onward, run as runText, reading}
-use Rattle.drawing.specs.Entry.{trailerFor, tableOf, drawnFault, drawnTable, given, left, drawAnswer, drawBytes, undrawAnswer, undrawBytes}
+use Rattle.ink.specs.Ink.{given, left}
+use Rattle.trailer.specs.Trailer.{trailerFor}
+use Rattle.drawing.specs.Entry.{tableOf, drawnFault, drawnTable, drawAnswer, drawBytes, undrawAnswer, undrawBytes}
 use Rattle.figures.specs.Case.{Every}
 use Rattle.figures.specs.Divisors.{divisors}
 

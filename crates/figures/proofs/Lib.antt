@@ -2,3 +2,4 @@ pub mod Outline
 pub mod Drawings
 pub mod Logs
 pub mod Divisors
+pub mod Editions

@@ -17,6 +17,7 @@ use Rattle.decimal.specs.Numbers.{text}
 use Rattle.log.specs.Lines.{faultFrom}
 use Rattle.replay.specs.Entry.{replayAnswer, replayBytes, replayWords}
 use Rattle.drawing.specs.Entry.{drawAnswer, drawBytes, undrawAnswer, undrawBytes}
+use Rattle.editions.specs.Entry.{toSecondAnswer, toSecondBytes, toFirstAnswer, toFirstBytes}
 
 pub data Case : Type 0 where
   -- a, b, d and e at n and t come to the threshold z
@@ -36,6 +37,9 @@ pub data Case : Type 0 where
   -- drawing a table answers refusal, place and bytes written, and leaves these bytes in as many lent ones; and so undrawing a text
   draws : List ℕ → ℕ → ℕ → ℕ → List ℕ → Case
   undraws : List ℕ → ℕ → ℕ → ℕ → List ℕ → Case
+  -- moving a table to the second edition answers refusal, place and bytes written, and leaves these bytes in as many lent ones; and so to the first
+  toSecond : List ℕ → ℕ → ℕ → ℕ → List ℕ → Case
+  toFirst : List ℕ → ℕ → ℕ → ℕ → List ℕ → Case
   -- replaying a log over a bundle beside a standing table answers refusal, place and steps, and leaves these bytes and words in as many lent ones
   replays : List ℕ → List ℕ → List ℕ → ℕ → ℕ → ℕ → List ℕ → List ℕ → Case
   -- from line i on, with room for n more lines, a log is refused with this number and place
@@ -56,6 +60,10 @@ Holds (draws s k p n bytes) =
     (drawAnswer s (length bytes) ≡ record { refusal = k; place = p; count = n }) × (drawBytes s (replicate (length bytes) 9) ≡ bytes)
 Holds (undraws t k p n bytes) =
     (undrawAnswer t (length bytes) ≡ record { refusal = k; place = p; count = n }) × (undrawBytes t (replicate (length bytes) 9) ≡ bytes)
+Holds (toSecond s k p n bytes) =
+    (toSecondAnswer s (length bytes) ≡ record { refusal = k; place = p; count = n }) × (toSecondBytes s (replicate (length bytes) 9) ≡ bytes)
+Holds (toFirst s k p n bytes) =
+    (toFirstAnswer s (length bytes) ≡ record { refusal = k; place = p; count = n }) × (toFirstBytes s (replicate (length bytes) 9) ≡ bytes)
 Holds (replays b standing log k p i bytes words) =
     (replayAnswer b standing log (length bytes) (length words) ≡ record { refusal = k; place = p; count = i }) × (replayBytes b standing log (replicate (length bytes) 9) (length words) ≡ bytes) × (replayWords b standing log (length bytes) (replicate (length words) 9) ≡ words)
 Holds (judges n i log k p) = faultFrom n i log ≡ verdict k p

@@ -26,7 +26,7 @@ pub const MOST_DIVISOR: usize = 8;
 pub const MOST_RULE_BYTES: usize = END_BYTES + SECOND_TYPE_BYTES * MOST_TYPES;
 
 // Whether a types byte is of the second edition.
-fn second(byte: usize) -> bool
+pub fn second(byte: usize) -> bool
     ensures { λ r. ⌜ r ≡ secondOf byte ⌝ }
 {
     SECOND <= byte

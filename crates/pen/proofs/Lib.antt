@@ -1,4 +1,3 @@
-pub mod PenLaws
 pub mod NumberLaws
 pub mod TextLaws
 pub mod LengthLaws

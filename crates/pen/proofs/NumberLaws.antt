@@ -8,8 +8,8 @@ use Rattle.fault.specs.Fault.{_if_else_}
 use Rattle.decimal.specs.Numbers.{text, decimal, signed, spelling}
 use Rattle.decimal.proofs.NumberLaws.{one-digit, two-digits, three-digits}
 use Rattle.dot.specs.Text.{jointAt}
-use Rattle.pen.specs.Pen.{stored, Put}
-use Rattle.pen.proofs.PenLaws.{put-none, put-byte, put-then}
+use Rattle.ink.specs.Ink.{stored, Put}
+use Rattle.ink.proofs.InkLaws.{put-none, put-byte, put-then}
 
 -- ---- digits
 pub put-one-digit : {out end : List ℕ} {n v b r : ℕ} → v < 10 → b ≡ 48 + v → r ≡ n + 1 → end ≡ stored out n (b ∷ []) → Put out n (decimal v) r end

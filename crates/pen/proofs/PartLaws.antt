@@ -13,8 +13,9 @@ use Rattle.table.specs.Facts.{Sized}
 use Rattle.decimal.specs.Numbers.{text, decimal, spelling}
 use Rattle.dot.specs.declared.Shape.{Shape}
 use Rattle.dot.specs.Text.{stateShape, ruleShape, jointAt, headText, numbersText, stateText, ruleText, statesText, rulesText, drawingOf}
-use Rattle.pen.specs.Pen.{stored, Put, alone, labelled, weightsText}
-use Rattle.pen.proofs.PenLaws.{RestPut, put-then, put-as, rest-less, rest-none}
+use Rattle.ink.specs.Ink.{stored, Put}
+use Rattle.pen.specs.Pen.{alone, labelled, weightsText}
+use Rattle.ink.proofs.InkLaws.{RestPut, put-then, put-as, rest-less, rest-none}
 use Rattle.pen.proofs.TextLaws.{label-is, numbers-more, numbers-over, state-is, states-more, states-over, rule-is, rules-more, rules-over, head-is, drawing-is}
 
 -- ---- a label

@@ -1,4 +1,4 @@
--- Bytes put one after the other into lent memory, so far as they fit; and the parts of a drawing that are put so.
+-- The parts of a drawing, as they are put one after the other.
 use Prim.Native.Nat.{ℕ, _+_, _*_}
 use mathlib.Core.Path.{_≡_}
 use mathlib.Core.List.{List, [], _∷_}
@@ -10,20 +10,6 @@ use Rattle.table.specs.Table.{typesByte, mostStates, mostRules, ruleAt}
 use Rattle.decimal.specs.Numbers.{text}
 use Rattle.dot.specs.declared.Shape.{Shape}
 use Rattle.dot.specs.Text.{Piece, written, after, aBlank, ruleShape, labelText}
-
--- a place is below 2^64 - 1, so that the next one never wraps
-abbrev pub places : ℕ
-places = 18446744073709551615
-
--- out with w put at n
-unfoldable pub stored : List ℕ → ℕ → List ℕ → List ℕ
-stored out n [] = out
-stored out n (b ∷ w) = stored (set out n b if n below length out else out) (n + 1) w
-
--- w was put at n: r is the place after it, and end is what out has become
-pub record Put (out : List ℕ) (n : ℕ) (w : List ℕ) (r : ℕ) (end : List ℕ) : Type 0 where
-  pub place : r ≡ n + length w
-  pub bytes : end ≡ stored out n w
 
 -- ---- parts of a drawing
 -- the most bytes of each

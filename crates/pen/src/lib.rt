@@ -8,7 +8,8 @@ ghost use Rattle.table.specs.Facts.{Sized};
 ghost use Rattle.decimal.specs.Numbers.{decimal, spelling};
 ghost use Rattle.decimal.specs.Numbers as numbers;
 ghost use Rattle.dot.specs.Text.{headText, jointAt, numbersText, stateText, ruleText, statesText, rulesText, drawingOf};
-ghost use Rattle.pen.specs.Pen.{places, stored, Put, alone, labelled, weightsText, mostHeadText, mostStateText, mostWeightsText, mostRuleText, mostStatesText, mostRulesText, mostDrawing};
+ghost use Rattle.ink.specs.Ink.{places, stored, Put};
+ghost use Rattle.pen.specs.Pen.{alone, labelled, weightsText, mostHeadText, mostStateText, mostWeightsText, mostRuleText, mostStatesText, mostRulesText, mostDrawing};
 use dot::Shape;
 
 // The drawing of a table that was read, so far as it fits; and how many bytes it has.
@@ -19,7 +20,7 @@ pub fn write(table: &[u8], out: &mut [u8]) -> usize
     let n = put_head(out, 0, table);
     let n = put_states(out, n, table);
     let n = put_rules(out, n, table);
-    put_all(out, n, b"\n}\n")
+    ink::put_all(out, n, b"\n}\n")
 }
 
 // The head at n, up to the line feed before the first state; and the place after it.
@@ -29,7 +30,7 @@ fn put_head(out: &mut [u8], n: usize, table: &[u8]) -> usize
 {
     let n = put_numbered(out, n, b"digraph t {\nT=", table::types_byte(table));
     let n = put_numbered(out, n, b"; k=", table::factor(table));
-    put_all(out, n, b";")
+    ink::put_all(out, n, b";")
 }
 
 // The lines of all states at n; and the place after them.
@@ -110,9 +111,9 @@ fn put_label(out: &mut [u8], n: usize, table: &[u8], at: usize, g: usize, shape:
     requires { ⌜ (n + 6 * g + 12 ≤ places) × (at + g ≤ length (now table)) × (1 ≤ shape .group) ⌝ }
     ensures { λ r. ⌜ Put (now (out .entry)) n (alone (labelled shape g (now (table .entry)) at)) r (now (out .exit)) × (r ≤ n + 6 * g + 12) ⌝ }
 {
-    let n = put_all(out, n, b" [label=\"");
+    let n = ink::put_all(out, n, b" [label=\"");
     let n = put_numbers(out, n, table, at, g, shape);
-    put_all(out, n, b"\"];")
+    ink::put_all(out, n, b"\"];")
 }
 
 // The g numbers of a label at n, from the first on; and the place after them.
@@ -153,9 +154,9 @@ fn put_joint(out: &mut [u8], n: usize, j: usize, i: usize) -> usize
         return n;
     }
     if i == 0 {
-        return put_all(out, n, b", ");
+        return ink::put_all(out, n, b", ");
     }
-    put_all(out, n, b" ")
+    ink::put_all(out, n, b" ")
 }
 
 // The number that a byte is in a label, at n; and the place after it.
@@ -177,7 +178,7 @@ fn put_signed(out: &mut [u8], n: usize, b: usize) -> usize
     if b < 128 {
         return put_decimal(out, n, b);
     }
-    let m = put(out, n, b'-');
+    let m = ink::put(out, n, b'-');
     put_decimal(out, m, 256 - b)
 }
 
@@ -186,7 +187,7 @@ fn put_numbered(out: &mut [u8], n: usize, word: &[u8], v: usize) -> usize
     requires { ⌜ (n + length (now word) + 3 ≤ places) × (v < 256) ⌝ }
     ensures { λ r. ⌜ Put (now (out .entry)) n (now (word .entry) ++ decimal v) r (now (out .exit)) × (r ≤ n + length (now (word .entry)) + 3) ⌝ }
 {
-    let n = put_all(out, n, word);
+    let n = ink::put_all(out, n, word);
     put_decimal(out, n, v)
 }
 
@@ -196,15 +197,15 @@ fn put_decimal(out: &mut [u8], n: usize, v: usize) -> usize
     ensures { λ r. ⌜ Put (now (out .entry)) n (decimal v) r (now (out .exit)) × (r ≤ n + 3) ⌝ }
 {
     if v < 10 {
-        return put(out, n, digit(v));
+        return ink::put(out, n, digit(v));
     }
     if v < 100 {
-        let n = put(out, n, digit(v / 10));
-        return put(out, n, digit(v % 10));
+        let n = ink::put(out, n, digit(v / 10));
+        return ink::put(out, n, digit(v % 10));
     }
-    let n = put(out, n, digit(v / 100));
-    let n = put(out, n, digit(v / 10 % 10));
-    put(out, n, digit(v % 10))
+    let n = ink::put(out, n, digit(v / 100));
+    let n = ink::put(out, n, digit(v / 10 % 10));
+    ink::put(out, n, digit(v % 10))
 }
 
 fn digit(v: usize) -> u8
@@ -212,30 +213,4 @@ fn digit(v: usize) -> u8
     ensures { λ r. ⌜ r ≡ 48 + v ⌝ }
 {
     (48 + v) as u8
-}
-
-// The bytes of a word at n, and the place after them.
-pub fn put_all(out: &mut [u8], n: usize, word: &[u8]) -> usize
-    requires { ⌜ n + length (now word) ≤ places ⌝ }
-    ensures { λ r. ⌜ Put (now (out .entry)) n (now (word .entry)) r (now (out .exit)) ⌝ }
-{
-    let mut i = 0;
-    let mut m = n;
-    while i < word.len() {
-        m = put(out, m, word[i]);
-        i += 1;
-    }
-    m
-}
-
-// The byte b at n, if there is room; and the place after it.
-pub fn put(out: &mut [u8], n: usize, b: u8) -> usize
-    requires { ⌜ n < places ⌝ }
-    ensures { λ r. ⌜ (r ≡ n + 1) × (now (out .exit) ≡ stored (now (out .entry)) n (b ∷ [])) ⌝ }
-{
-    if n < out.len() {
-        out[n] = b;
-        return n + 1;
-    }
-    n + 1
 }

@@ -1,5 +1,6 @@
 -- The rules as a run keeps them: each store adds one, and keeps those before it.
-use mathlib.Core.Path.{_≡_, refl, _∙_, subst⁻¹}
+use mathlib.Core.Path.{_≡_, refl, sym, ap, ap₂, _∙_, subst⁻¹}
+use mathlib.Core.Bool.{not, _&&_}
 use mathlib.Core.List.{List}
 use Prim.Native.Nat.{ℕ, _+_, _*_, _≤_, _<_}
 use native.Mathlib.Decide.{ℕ-discrete}
@@ -10,7 +11,12 @@ use Rattle.threshold.proofs.LeastLaws.{from-least}
 use Rattle.threshold.specs.Threshold.{thresholdOf, leastOf}
 use Rattle.threshold.specs.declared.Weights.{Weights}
 use Rattle.layout.specs.Layout.{typesIn, weightsOf}
-use Rattle.table.specs.Table.{typesByte, ruleSize, fromOf, toOf, ruleOf}
+use borrow.Author.Tests.{lt-ltb}
+use Rattle.senders.specs.Tally.{least}
+use Rattle.senders.specs.Set.{mem, missing}
+use Rattle.fault.specs.Fault.{_if_else_}
+use Rattle.paper.specs.Paper.{Design, newly}
+use Rattle.table.specs.Table.{statesOf, typesByte, initialOf, sentOf, ruleSize, fromOf, toOf, ruleOf}
 use Rattle.words.specs.declared.Sizes.{Sizes}
 use Rattle.fault.specs.Tests.{_atLeast_}
 use Rattle.rules.specs.Design.{thresholdFor, metAt, leastAt, sendsOf, designOf}
@@ -121,16 +127,44 @@ module _ (s : Sizes) (t : ℕ) (table : List ℕ) where
       go r m h l (yes z) = rw (z, ← e, ← b) (R .row m l)
       go r m h l (no z) = R .before (r * 4 + m) (omega arith) ∙ L .at r m (omega arith) l
 
+-- ---- what the design says of rules and states that there are
+module _ (s : Sizes) (t : ℕ) (table : List ℕ) where
+  abbrev d : Design
+  d = designOf s t table
+
+  pub from-is : (r : ℕ) → r < s .rules → d .from r ≡ fromOf table r
+  unfolding _if_else_
+  from-is r h = rw (lt-ltb r (s .rules) h)
+
+  pub to-is : (r : ℕ) → r < s .rules → d .to r ≡ toOf table r
+  unfolding _if_else_
+  to-is r h = rw (lt-ltb r (s .rules) h)
+
+  pub sent-is : (i : ℕ) → i < statesOf table → (m : ℕ) → d .hasSent i m ≡ mem (sentOf table i) m
+  sent-is i h m = rw (lt-ltb i (statesOf table) h)
+
+  pub initial-is : (i : ℕ) → i < statesOf table → d .initial i ≡ initialOf table i
+  initial-is i h = rw (lt-ltb i (statesOf table) h)
+
+  pub met-at : (r m c : ℕ) → r < s .rules → m < s .types → d .met r m c ≡ metAt table r m (s .correct + s .faulty) t c
+  met-at r m c h l = rw (lt-ltb r (s .rules) h, lt-ltb m (s .types) l)
+
+  -- what a rule sends, by the masks of its ends
+  pub newly-is : Suits s table → (r : ℕ) → r < s .rules → newly d (d .from r) (d .to r) ≡ missing (sentOf table (toOf table r)) (sentOf table (fromOf table r))
+  newly-is S r h =
+      let E = S .formed .rule r (rw (← S .rules) h) .ends in
+      ap₂ (newly d) (from-is r h) (to-is r h) ∙ λ i m. sent-is (toOf table r) (E .to) m i && not (sent-is (fromOf table r) (E .from) m i)
+
 -- ---- all of them stand for the table's design
 pub kept-by : (s : Sizes) (t : ℕ) (table e l : List ℕ) → Suits s table → EndsTo (s .types) table e (s .rules) → LeastsTo s t table l (s .rules) → Kept (designOf s t table) s e l
 kept-by s t table e l S E L = record {
   ends = record {
     long = E .long;
     numbers = record { boards = refl; faulty = refl; types = refl; rules = refl };
-    from = λ r h. E .at r h .from;
-    to = λ r h. E .at r h .to;
-    sends = λ r h. E .at r h .sends;
-    one-new = λ r h. rw (S .types) (S .formed .rule r (rw (← S .rules) h) .one-new);
+    from = λ r h. E .at r h .from ∙ sym (from-is s t table r h);
+    to = λ r h. E .at r h .to ∙ sym (to-is s t table r h);
+    sends = λ r h. E .at r h .sends ∙ ap (least (s .types)) (sym (newly-is s t table S r h));
+    one-new = λ r h. rw (newly-is s t table S r h, S .types) (S .formed .rule r (rw (← S .rules) h) .one-new);
   };
-  leasts = record { long = L .long; met = λ r m c h k. met-is table r m (s .correct + s .faulty) t c (L .at r m h k) };
+  leasts = record { long = L .long; met = λ r m c h k. met-at s t table r m c h k ∙ met-is table r m (s .correct + s .faulty) t c (L .at r m h k) };
 }

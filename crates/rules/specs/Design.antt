@@ -1,5 +1,5 @@
 -- From bytes to the paper: what a table with n, t, f comes to, as a design.
-use mathlib.Core.Bool.{Bool}
+use mathlib.Core.Bool.{Bool, _&&_}
 use mathlib.Core.List.{List}
 use Prim.Native.Nat.{ℕ, _+_}
 use lib.IntN.{ℤ}
@@ -7,7 +7,9 @@ use Rattle.senders.specs.Tally.{least}
 use Rattle.senders.specs.Set.{mem, missing}
 use Rattle.threshold.specs.Threshold.{thresholdOf, metBy, leastOf}
 use Rattle.table.specs.Table as table
-use Rattle.table.specs.Table.{initialOf, fromOf, toOf, weightsFor}
+use Rattle.fault.specs.Tests.{_below_}
+use Rattle.fault.specs.Fault.{_if_else_}
+use Rattle.table.specs.Table.{statesOf, initialOf, fromOf, toOf, weightsFor}
 use Rattle.paper.specs.Paper.{Design}
 use Rattle.words.specs.declared.Sizes.{Sizes}
 
@@ -26,16 +28,17 @@ leastAt table r m n t = leastOf (thresholdFor table r m n t)
 abbrev pub sendsOf : ℕ → List ℕ → ℕ → ℕ
 sendsOf T tab r = least T (missing (table.sentOf tab (toOf tab r)) (table.sentOf tab (fromOf tab r)))
 
--- the design: n is the correct boards and the faulty ones
+-- the design: n is the correct boards and the faulty ones. Of a state, a rule or a type that there is not it says nothing, whatever bytes stand
+-- there: tables that say the same have one design
 abbrev pub designOf : Sizes → ℕ → List ℕ → Design
 designOf s t tab = record {
   boards = s .correct;
   faulty = s .faulty;
   types = s .types;
   rules = s .rules;
-  initial = initialOf tab;
-  hasSent = λ i m. mem (table.sentOf tab i) m;
-  from = fromOf tab;
-  to = toOf tab;
-  met = λ r m c. metAt tab r m (s .correct + s .faulty) t c;
+  initial = λ i. i below statesOf tab && initialOf tab i;
+  hasSent = λ i m. i below statesOf tab && mem (table.sentOf tab i) m;
+  from = λ r. fromOf tab r if r below s .rules else 0;
+  to = λ r. toOf tab r if r below s .rules else 0;
+  met = λ r m c. r below s .rules && m below s .types && metAt tab r m (s .correct + s .faulty) t c;
 }

@@ -9,7 +9,8 @@ use native.Mathlib.Omega.{arith}
 use lib.ListN.{length, getD}
 use Rattle.senders.specs.Set.{mem}
 use Rattle.senders.proofs.SetLaws.{set-laws}
-use Rattle.bundle.specs.Bundle.{startsOf, stepsOf, tableInUse}
+use Rattle.table.specs.Table.{fromOf, toOf}
+use Rattle.bundle.specs.Bundle.{tOf, startsOf, stepsOf, tableInUse}
 use Rattle.bundle.specs.Facts.{Read}
 use Rattle.paper.specs.Paper.{Design, Step}
 use Rattle.paper.specs.Words.{start}
@@ -23,6 +24,7 @@ use Rattle.schedule.proofs.RecordLaws.{steps-bytes, bytes-again, bytes-many, re
 use Rattle.words.specs.declared.Sizes.{Sizes}
 use Rattle.words.specs.Facts.{Bounded}
 use Rattle.rules.specs.Kept.{KeptEnds}
+use Rattle.rules.proofs.RuleLaws.{from-is, to-is, sent-is}
 use Rattle.engine.specs.Design.{sizesOf, designWith, designIn}
 use Rattle.engine.specs.Entry.{scheduleOf, startIn}
 use Rattle.engine.specs.Open.{Parts, Ready}
@@ -38,15 +40,22 @@ not-missing false false e h = absurd (true≢false (sym h))
 
 -- ---- a bundle that is read, with its table
 module _ (t b : List ℕ) (R : Read t b) where
+  abbrev s₀ : Sizes
+  s₀ = sizesOf t b
+
   abbrev d₀ : Design
   d₀ = designWith t b
 
   keeps : (r m : ℕ) → r < d₀ .rules → m < d₀ .types → d₀ .hasSent (d₀ .from r) m ≡ true → d₀ .hasSent (d₀ .to r) m ≡ true
-  keeps r m hr hm h = not-missing _ _ (R .formed .rule r hr .keeps m hm) h
+  keeps r m hr hm h =
+      let F = R .formed .rule r hr in
+      ap (λ (i : ℕ). d₀ .hasSent i m) (to-is s₀ (tOf b) t r hr) ∙ sent-is s₀ (tOf b) t (toOf t r) (F .ends .to) m ∙
+      not-missing _ _ (F .keeps m hm) (sym (ap (λ (i : ℕ). d₀ .hasSent i m) (from-is s₀ (tOf b) t r hr) ∙ sent-is s₀ (tOf b) t (fromOf t r) (F .ends .from) m) ∙ h)
 
   pub quiet : (p m : ℕ) → p < d₀ .boards → m < d₀ .types → d₀ .hasSent (getD (startsOf b) p 0) m ≡ false
   quiet p m hp hm =
       let B = R .start p hp in
+      sent-is s₀ (tOf b) t (getD (startsOf b) p 0) (B .state) m ∙
       ap (λ (S : ℕ). mem S m) (R .formed .state (getD (startsOf b) p 0) (B .state) .fresh (B .initial)) ∙ set-laws .empty m
 
   pub kept : Remembers d₀

@@ -1,5 +1,6 @@
 //! Whoever is judged, or judges.
 
+use crate::model::Edition;
 use macaroosh::calls::{Answer, First};
 
 /// Whoever answers the three questions about a bundle: the library, the model, or a broken variant of it.
@@ -30,4 +31,10 @@ pub trait Draws {
 pub trait Replays {
     /// Writes the bundle that a log's lines make of one without steps to the lent bytes, and runs it in the lent words.
     fn replay(&self, bundle: &[u8], standing: &[u8], log: &[u8], out: &mut [u8], words: &mut [u64]) -> Answer;
+}
+
+/// Whoever moves tables to the other edition: the library, the model, or a broken variant of it.
+pub trait Moves {
+    /// Writes a table part in that edition to the lent bytes.
+    fn to_edition(&self, to: Edition, table: &[u8], out: &mut [u8]) -> Answer;
 }

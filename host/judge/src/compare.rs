@@ -1,11 +1,12 @@
 //! Two benches on one bundle, table, drawing or log: every answer, and every lent word and byte.
 
-use crate::bench::{Bench, Draws, Replays};
+use crate::bench::{Bench, Draws, Moves, Replays};
 use crate::dice::Dice;
 use crate::drawings::{Drawing, Text};
+use crate::editions::EditionOutline;
 use crate::logs::LogOutline;
 use crate::makers::logs::Replay;
-use crate::model::{read, read_table, Model};
+use crate::model::{read, read_table, Edition, Model};
 use macaroosh::calls::{Answer, First};
 use macaroosh::Form;
 use std::fmt::Debug;
@@ -106,6 +107,27 @@ pub fn compare_replay(
             same_memory(&format!("{name}: byte"), &ours.1, &theirs.1)?;
             same_memory(&format!("{name}: word"), &ours.2, &theirs.2)?;
             refusals.push(ours.0.refusal);
+        }
+    }
+    Ok(refusals)
+}
+
+/// The same for a table part in each edition, with its refusals by the edition asked for.
+pub fn compare_moves(
+    one: &dyn Moves,
+    other: &dyn Moves,
+    table: &[u8],
+    dice: &mut Dice,
+) -> Result<Vec<(Edition, u8)>, String> {
+    let mut refusals = Vec::new();
+    for to in Edition::ALL {
+        // Also for a table that is refused, so that there would be room for whoever takes it.
+        let bytes = read_table(table).map_or(7, |table| Model.in_edition(&table, to).len());
+        for length in lengths(bytes, dice) {
+            let ours = |lent: &mut [u8]| one.to_edition(to, table, lent);
+            let theirs = |lent: &mut [u8]| other.to_edition(to, table, lent);
+            let name = format!("to the {} edition", to.name());
+            refusals.push((to, same(&name, junk(length, dice), ours, theirs)?));
         }
     }
     Ok(refusals)

@@ -2,7 +2,7 @@
 //! long as some drawing goes on so. It calls nothing that it judges.
 
 use crate::bench::Draws;
-use crate::model::{nothing_done, read_table, refused, Coefficients, Edition, Model, Rule, Table};
+use crate::model::{nothing_done, read_table, refused, written, Coefficients, Edition, Model, Rule, Table};
 use macaroosh::calls::Answer;
 use macaroosh::Refusal;
 use std::ops::RangeInclusive;
@@ -130,27 +130,16 @@ impl Text for Model {}
 impl<T: Text> Draws for T {
     fn draw(&self, table: &[u8], out: &mut [u8]) -> Answer {
         match self.read_part(table) {
-            Ok(table) => written(self.text(&Drawing::of(&table)).as_bytes(), out),
+            Ok(table) => written(self.text(&Drawing::of(&table)).as_bytes(), out, 61),
             Err(refusal) => nothing_done(refusal),
         }
     }
 
     fn undraw(&self, text: &[u8], out: &mut [u8]) -> Answer {
         match self.table(text) {
-            Ok(part) => written(&part, out),
+            Ok(part) => written(&part, out, 61),
             Err(refusal) => nothing_done(refusal),
         }
-    }
-}
-
-// All the bytes or, where the room is too short, none.
-fn written(bytes: &[u8], out: &mut [u8]) -> Answer {
-    match out.get_mut(..bytes.len()) {
-        Some(room) => {
-            room.copy_from_slice(bytes);
-            Answer { refusal: 0, place: 0, count: bytes.len() as u32 }
-        }
-        None => nothing_done(refused(61, 0)),
     }
 }
 

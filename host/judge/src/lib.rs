@@ -7,11 +7,12 @@ mod bench;
 pub mod compare;
 pub mod dice;
 pub mod drawings;
+pub mod editions;
 pub mod fast;
 mod library;
 pub mod logs;
 pub mod makers;
 pub mod model;
 
-pub use bench::{Bench, Draws, Replays};
+pub use bench::{Bench, Draws, Moves, Replays};
 pub use library::Library;

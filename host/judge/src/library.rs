@@ -1,6 +1,7 @@
 //! The proved library among the benches.
 
-use crate::bench::{Bench, Draws, Replays};
+use crate::bench::{Bench, Draws, Moves, Replays};
+use crate::model::Edition;
 use macaroosh::calls::{self, Answer, First};
 
 /// The proved library as one of those that are compared.
@@ -37,5 +38,14 @@ impl Draws for Library {
 impl Replays for Library {
     fn replay(&self, bundle: &[u8], standing: &[u8], log: &[u8], out: &mut [u8], words: &mut [u64]) -> Answer {
         calls::replay(bundle, standing, log, out, words)
+    }
+}
+
+impl Moves for Library {
+    fn to_edition(&self, to: Edition, table: &[u8], out: &mut [u8]) -> Answer {
+        match to {
+            Edition::First => calls::to_first(table, out),
+            Edition::Second => calls::to_second(table, out),
+        }
     }
 }

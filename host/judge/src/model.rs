@@ -6,6 +6,8 @@ use macaroosh::{Form, Refusal, ECHO, MOST_BYTES};
 use std::collections::BTreeSet;
 use std::ops::Range;
 
+pub use macaroosh::terms::rules::Edition;
+
 /// A state record: flags and the mask of types sent.
 #[derive(Clone, Debug)]
 pub struct State {
@@ -15,34 +17,6 @@ pub struct State {
     pub accepting: bool,
     /// Bit m for type m.
     pub sent: u8,
-}
-
-/// The edition of a table's rules.
-#[derive(Clone, Copy, Debug, PartialEq, Eq)]
-pub enum Edition {
-    /// Thresholds without a divisor.
-    First,
-    /// A divisor for each type.
-    Second,
-}
-
-impl Edition {
-    /// The edition and the number of types that a types byte tells, also where no table has so many.
-    pub fn of(types_byte: usize) -> (Edition, usize) {
-        if types_byte < 16 {
-            (Edition::First, types_byte)
-        } else {
-            (Edition::Second, types_byte - 16)
-        }
-    }
-
-    /// The types byte for so many types.
-    pub fn types_byte(self, types: usize) -> usize {
-        match self {
-            Edition::First => types,
-            Edition::Second => types + 16,
-        }
-    }
 }
 
 /// What a rule has for one type.
@@ -590,6 +564,17 @@ impl<O: Outline> Bench for O {
             (_, Some(refusal)) => Err(refusal),
             (left, None) => Ok(self.first_in(&bundle, &left)),
         }
+    }
+}
+
+/// All the bytes or, where the room is too short, none and that refusal.
+pub(crate) fn written(bytes: &[u8], out: &mut [u8], too_short: u8) -> Answer {
+    match out.get_mut(..bytes.len()) {
+        Some(room) => {
+            room.copy_from_slice(bytes);
+            Answer { refusal: 0, place: 0, count: bytes.len() as u32 }
+        }
+        None => nothing_done(refused(too_short, 0)),
     }
 }
 

@@ -2,7 +2,7 @@
 
 use crate::terms::refusals::Refusal;
 
-/// What a run, a translation or a drawing answers.
+/// What every call answers but the first-step question.
 #[derive(Clone, Copy, Debug, PartialEq, Eq)]
 pub struct Answer {
     /// The refusal's number, or 0.

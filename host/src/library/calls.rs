@@ -57,6 +57,18 @@ pub fn replay(bundle: &[u8], standing: &[u8], log: &[u8], out: &mut [u8], words:
     unpacked(ffi::replay(bundle, standing, log, out, words))
 }
 
+/// Writes a first-edition table part in the second edition, with e = 1 for every rule and type; `MOST_TABLE` bytes are enough.
+#[inline]
+pub fn to_second(table: &[u8], out: &mut [u8]) -> Answer {
+    unpacked(ffi::to_second(table, out))
+}
+
+/// Writes a second-edition table part whose every e is 1 in the first edition; as many bytes as the table has are enough.
+#[inline]
+pub fn to_first(table: &[u8], out: &mut [u8]) -> Answer {
+    unpacked(ffi::to_first(table, out))
+}
+
 // The refusal in bits 0 to 7, the place in bits 8 to 31, the count in bits 32 to 63.
 #[inline]
 fn unpacked(packed: u64) -> Answer {

@@ -49,6 +49,8 @@ mod capi {
             words: *mut u64,
             words_length: usize,
         ) -> u64;
+        pub fn macaroosh_to_second(table: *const u8, table_length: usize, out: *mut u8, out_length: usize) -> u64;
+        pub fn macaroosh_to_first(table: *const u8, table_length: usize, out: *mut u8, out_length: usize) -> u64;
     }
 }
 
@@ -140,4 +142,18 @@ pub fn replay(bundle: &[u8], standing: &[u8], log: &[u8], out: &mut [u8], words:
             words.len(),
         )
     }
+}
+
+/// The packed answer of a move to the second edition.
+#[inline]
+pub fn to_second(table: &[u8], out: &mut [u8]) -> u64 {
+    // SAFETY: as above.
+    unsafe { capi::macaroosh_to_second(table.as_ptr(), table.len(), out.as_mut_ptr(), out.len()) }
+}
+
+/// The packed answer of a move to the first edition.
+#[inline]
+pub fn to_first(table: &[u8], out: &mut [u8]) -> u64 {
+    // SAFETY: as above.
+    unsafe { capi::macaroosh_to_first(table.as_ptr(), table.len(), out.as_mut_ptr(), out.len()) }
 }

@@ -1,10 +1,12 @@
 //! The words after the program's name.
 
-use crate::names::shown;
+use crate::names::{quoted, shown};
 use crate::part::Part;
 use crate::show::Style;
 use crate::words::Words;
+use macaroosh::terms::rules::Edition;
 use macaroosh::Form;
+use std::collections::BTreeSet;
 use std::ffi::{OsStr, OsString};
 use std::path::PathBuf;
 
@@ -19,6 +21,23 @@ pub enum Asked {
     Nothing,
     /// An answer.
     Answer(Request),
+    /// Tables in another edition, each in a file of its own.
+    Move(Shelf),
+}
+
+/// Tables that are moved to an edition, all into one folder.
+#[derive(Debug)]
+pub struct Shelf {
+    /// The edition.
+    pub to: Edition,
+    /// Each by the name of its file; no two names are the same.
+    pub tables: Vec<(OsString, Input)>,
+    /// Where each is written under its name.
+    pub folder: PathBuf,
+    /// Whether a file of other content is replaced there.
+    pub replace: bool,
+    /// Whom the answer is for.
+    pub style: Style,
 }
 
 /// One question about one bundle, table, drawing or text, or about a bundle and a log.
@@ -67,6 +86,8 @@ pub enum Command {
     Replay(Rows),
     /// The log of a bundle.
     Log,
+    /// A table in an edition.
+    Edition(Edition),
 }
 
 /// What a replay shows.
@@ -84,7 +105,7 @@ impl Command {
     /// What its input is.
     pub fn reads(self) -> &'static str {
         match self {
-            Command::Draw(_) => "table",
+            Command::Draw(_) | Command::Edition(_) => "table",
             Command::Undraw => "drawing",
             Command::Pack => "text",
             _ => "bundle",
@@ -99,7 +120,7 @@ impl Command {
     /// Whether its output is bytes that are no text.
     pub fn writes_bytes(self) -> bool {
         let image = matches!(self, Command::Draw(Some(Image::Png)) | Command::DrawOf(Some(Image::Png)));
-        image || matches!(self, Command::Translate(_) | Command::Undraw | Command::Pack)
+        image || matches!(self, Command::Translate(_) | Command::Undraw | Command::Pack | Command::Edition(_))
     }
 }
 
@@ -135,9 +156,9 @@ impl Input {
     }
 }
 
-const COMMANDS: &str = "run, trace, first, translate, draw, undraw, unpack, pack, replay, log";
-const OPTIONS: &str = "--standing, -o, --to, --svg, --png, --of, --all, --board, --from, --trace, --follow, --plain, \
-                       --json, --partial, --help, --version";
+const COMMANDS: &str = "run, trace, first, translate, draw, undraw, unpack, pack, replay, log, edition";
+const OPTIONS: &str = "--standing, -o, --to, --svg, --png, --of, --all, --board, --from, --trace, --follow, --into, \
+                       --replace, --plain, --json, --partial, --help, --version";
 
 /// The options that are for some commands alone.
 #[derive(Default)]
@@ -156,8 +177,9 @@ struct Special {
 pub fn parse(words: impl Iterator<Item = OsString>) -> Result<Asked, String> {
     let mut words = Words::of(words);
     let mut free: Vec<OsString> = Vec::new();
-    let (mut standing, mut output, mut special) = (None, None, Special::default());
-    let (mut plain, mut json, mut partial, mut options_end, mut any) = (false, false, false, false, false);
+    let (mut standing, mut output, mut into, mut special) = (None, None, None, Special::default());
+    let (mut plain, mut json, mut partial, mut replace) = (false, false, false, false);
+    let (mut options_end, mut any) = (false, false);
     while let Some(word) = words.next()? {
         any = true;
         // A word that is no text is no option, so it is taken as it is.
@@ -173,11 +195,13 @@ pub fn parse(words: impl Iterator<Item = OsString>) -> Result<Asked, String> {
             "--of" => special.of = true,
             "--trace" => special.trace = true,
             "--follow" => special.follow = true,
+            "--replace" => replace = true,
+            "--into" => once(&mut into, PathBuf::from(words.value("--into", "folder")?), "--into")?,
             "--board" => once(&mut special.board, number(&words.value("--board", "number")?)?, "--board")?,
             "--from" => once(&mut special.from, number(&words.value("--from", "step")?)?, "--from")?,
             "--standing" => once(&mut standing, Input::of(words.value("--standing", "file")?), "--standing")?,
             "-o" => once(&mut output, words.value("-o", "file")?, "-o")?,
-            "--to" => once(&mut special.to, words.value("--to", "form or step")?, "--to")?,
+            "--to" => once(&mut special.to, words.value("--to", "form, edition or step")?, "--to")?,
             "--svg" => once(&mut special.image, Image::Svg, "--svg or --png")?,
             "--png" => once(&mut special.image, Image::Png, "--svg or --png")?,
             _ => return Err(format!("there is no option '{}'; the options are {OPTIONS}", shown(&word))),
@@ -189,12 +213,25 @@ pub fn parse(words: impl Iterator<Item = OsString>) -> Result<Asked, String> {
     let mut free = free.into_iter();
     let command = match free.next() {
         None => {
-            let all = "run, trace, first, translate, draw, undraw, unpack, pack, replay or log";
+            let all = "run, trace, first, translate, draw, undraw, unpack, pack, replay, log or edition";
             return Err(format!("which command: {all}?"));
         }
         Some(word) if word == "help" => return Ok(Asked::Help),
         Some(word) => command(&word, special)?,
     };
+    options_fit(command, partial, standing.is_some())?;
+    let style = style(command, plain, json)?;
+    if let Some(folder) = into {
+        let to = match command {
+            Command::Edition(_) if output.is_some() => return Err("-o is one file, --into a folder; choose one".into()),
+            Command::Edition(to) => to,
+            _ => return Err("--into is for edition alone".to_string()),
+        };
+        return Ok(Asked::Move(Shelf { to, tables: tables(free)?, folder, replace, style }));
+    }
+    if replace {
+        return Err("--replace is for --into alone; the file of -o is replaced anyway".to_string());
+    }
     let what = command.reads();
     let mut input = |what: &str| {
         let word = free.next().ok_or_else(|| format!("which {what}? Name a file, or '-' for standard input"));
@@ -203,24 +240,51 @@ pub fn parse(words: impl Iterator<Item = OsString>) -> Result<Asked, String> {
     let (input, log) = (input(what)?, command.reads_log().then(|| input("log")).transpose()?);
     if let Some(word) = free.next() {
         let log = if log.is_some() { " and one log" } else { "" };
-        return Err(format!("one {what}{log} at a time: '{}' is one word too many", shown(&word)));
-    }
-    if partial && !matches!(command, Command::Run | Command::Trace(_)) {
-        return Err("--partial is for run and trace alone".to_string());
-    }
-    if standing.is_some() && matches!(command, Command::DrawOf(_)) {
-        return Err("--of draws a bundle's own table; --standing is for bundles that are run".to_string());
-    }
-    if matches!(command, Command::Draw(_) | Command::Undraw) && standing.is_some() {
-        return Err(format!("--standing is for bundles; this command reads a {what} alone"));
+        let several = if matches!(command, Command::Edition(_)) { "; --into FOLDER takes several" } else { "" };
+        return Err(format!("one {what}{log} at a time: '{}' is one word too many{several}", shown(&word)));
     }
     one_from_standard_input(&[(what, Some(&input)), ("log", log.as_ref()), ("standing table", standing.as_ref())])?;
     if command.reads_log() && output.as_ref().map_or(false, |word| word == "-") {
         return Err("what a replay shows goes to standard output, and -o keeps its bundle; name a file".to_string());
     }
-    let style = style(command, plain, json)?;
     let output = output.filter(|word| word != "-").map(PathBuf::from);
     Ok(Asked::Answer(Request { command, input, log, standing, output, partial, style }))
+}
+
+// Whether options that several commands have are for this one.
+fn options_fit(command: Command, partial: bool, standing: bool) -> Result<(), String> {
+    if partial && !matches!(command, Command::Run | Command::Trace(_)) {
+        return Err("--partial is for run and trace alone".to_string());
+    }
+    if standing && matches!(command, Command::DrawOf(_)) {
+        return Err("--of draws a bundle's own table; --standing is for bundles that are run".to_string());
+    }
+    if standing && matches!(command, Command::Draw(_) | Command::Undraw | Command::Edition(_)) {
+        return Err(format!("--standing is for bundles; this command reads a {} alone", command.reads()));
+    }
+    Ok(())
+}
+
+// The tables of a shelf, each with a name of its own.
+fn tables(words: impl Iterator<Item = OsString>) -> Result<Vec<(OsString, Input)>, String> {
+    let (mut tables, mut names) = (Vec::new(), BTreeSet::new());
+    for word in words {
+        let path = PathBuf::from(&word);
+        let name = match path.file_name() {
+            Some(name) if word != "-" => name.to_owned(),
+            Some(_) => return Err("--into writes a table under its own name, and standard input has none".to_string()),
+            None => return Err(format!("{} is no name of a file", quoted(&path))),
+        };
+        if !names.insert(name.clone()) {
+            let name = shown(&name);
+            return Err(format!("two tables are named '{name}', and --into would write one over the other"));
+        }
+        tables.push((name, Input::File(path)));
+    }
+    if tables.is_empty() {
+        return Err("which tables? Name their files".to_string());
+    }
+    Ok(tables)
 }
 
 // It can be read once.
@@ -251,6 +315,7 @@ fn command(word: &OsStr, special: Special) -> Result<Command, String> {
         Some("replay") if trace => Command::Replay(Rows::All),
         Some("replay") => Command::Replay(Rows::None),
         Some("log") => Command::Log,
+        Some("edition") => Command::Edition(edition(to.as_deref())?),
         _ => {
             let word = shown(word);
             return Err(format!("there is no command '{word}'; the commands are {COMMANDS}"));
@@ -265,8 +330,8 @@ fn command(word: &OsStr, special: Special) -> Result<Command, String> {
     if all && !matches!(command, Command::All) {
         return Err("--all is for first alone".to_string());
     }
-    if asked_to && !matches!(command, Command::Translate(_) | Command::Trace(_)) {
-        return Err("--to is for translate and trace alone".to_string());
+    if asked_to && !matches!(command, Command::Translate(_) | Command::Trace(_) | Command::Edition(_)) {
+        return Err("--to is for translate, trace and edition alone".to_string());
     }
     if (board.is_some() || from.is_some()) && !matches!(command, Command::Trace(_)) {
         return Err("--board and --from are for trace alone".to_string());
@@ -316,6 +381,15 @@ fn form(word: &OsStr) -> Result<Form, String> {
     word.to_str().and_then(Form::named).ok_or_else(|| {
         let forms = Form::ALL.map(Form::name).join(", ");
         format!("there is no form '{}'; the forms are {forms}", shown(word))
+    })
+}
+
+// The edition that a word names.
+fn edition(word: Option<&OsStr>) -> Result<Edition, String> {
+    let word = word.ok_or("which edition: --to first or --to second?")?;
+    word.to_str().and_then(Edition::named).ok_or_else(|| {
+        let editions = Edition::ALL.map(Edition::name).join(", ");
+        format!("there is no edition '{}'; the editions are {editions}", shown(word))
     })
 }
 

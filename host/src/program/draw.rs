@@ -69,7 +69,8 @@ pub fn undraw(text: &[u8], path: Option<&Path>, plain: bool) -> Reply {
     Reply::of(table, answer, told, plain)
 }
 
-fn wrote(output: &[u8], thing: &str, table: &[u8], path: Option<&Path>) -> String {
+/// What was written of a table, and where.
+pub fn wrote(output: &[u8], thing: &str, table: &[u8], path: Option<&Path>) -> String {
     let [states, rules] = picture::counts(table);
     let (bytes, to) = (show::counted(output.len(), "byte"), show::to(path));
     format!("wrote {bytes}{to}: {thing} of {} and {}\n", show::counted(states, "state"), show::counted(rules, "rule"))

@@ -3,6 +3,7 @@
 use crate::args::Input;
 use crate::names::quoted;
 use crate::{output, system};
+use macaroosh::MOST_TABLE;
 use std::fs::File;
 use std::io::{self, Read};
 use std::path::Path;
@@ -20,15 +21,29 @@ pub fn read(input: &Input, most: &str) -> Result<Vec<u8>, String> {
     Ok(bytes)
 }
 
+/// The same of a table.
+pub fn table(input: &Input) -> Result<Vec<u8>, String> {
+    read(input, &format!("a table has at most {MOST_TABLE}"))
+}
+
 /// An input to be read as it comes, and its name in messages.
 pub fn opened(input: &Input) -> Result<(String, File), String> {
-    let (name, from) = match input {
-        Input::Standard => ("standard input".to_string(), system::stream(0)),
-        Input::File(path) => (quoted(path), File::open(path)),
+    let name = name(input);
+    let from = match input {
+        Input::Standard => system::stream(0),
+        Input::File(path) => File::open(path),
     };
     match from {
         Ok(from) => Ok((name, from)),
         Err(error) => Err(unread(&name, &error)),
+    }
+}
+
+/// The name of an input in messages.
+pub fn name(input: &Input) -> String {
+    match input {
+        Input::Standard => "standard input".to_string(),
+        Input::File(path) => quoted(path),
     }
 }
 
@@ -58,6 +73,7 @@ pub fn show(text: &str) -> Result<bool, String> {
     output::shown(text.as_bytes()).map_err(|error| unwritten("standard output", &error))
 }
 
-fn unwritten(name: &str, error: &io::Error) -> String {
+/// That an output can't be written.
+pub fn unwritten(name: &str, error: &io::Error) -> String {
     format!("macaroosh: cannot write {name}: {error}\n")
 }

@@ -1,10 +1,11 @@
-//! The program at the bench: run, translate, first, trace; draw, undraw; unpack, pack; replay, log. Exit status 0 answered,
-//! 1 refused, 2 bad use.
+//! The program at the bench: run, translate, first, trace; draw, undraw; unpack, pack; replay, log; edition. Exit status 0
+//! answered, 1 refused, 2 bad use.
 #![deny(unsafe_code)]
 
 mod all;
 mod args;
 mod draw;
+mod edition;
 mod files;
 mod graphviz;
 mod guard;
@@ -17,6 +18,7 @@ mod output;
 mod part;
 mod picture;
 mod replies;
+mod shelf;
 mod show;
 mod system;
 mod text;
@@ -25,7 +27,7 @@ mod why;
 mod words;
 
 use args::{Asked, Command, Input, Request, Rows};
-use macaroosh::{ECHO, MOST_BYTES, MOST_DRAWING, MOST_TABLE};
+use macaroosh::{ECHO, MOST_BYTES, MOST_DRAWING};
 use replies::{Question, Reply};
 use show::Style;
 use std::io::Write;
@@ -51,6 +53,9 @@ Macaroosh runs a schedule of steps against a threshold table.
   macaroosh replay FILE LOG  show what the lines of a service log leave, as
                              the steps of a bundle that has none
   macaroosh log FILE         write the log of a bundle: a line for each step
+  macaroosh edition TABLE    write the table in the other edition, with a
+                             divisor 1 in each rule or with none; with --into
+                             many tables, each under its own name
 
 FILE is a bundle: a table, then a schedule. A bundle without a table is read
 beside the standing table. TABLE is a table alone, without a schedule. LOG has
@@ -58,6 +63,10 @@ lines 'board 0 rule 3' and 'board 2 rule 3 type 0 from 0'. For each of the
 five '-' is standard input.
 
   --to FORM         the form to translate to: message, counting or plain
+  --to EDITION      the edition to move a table to: first or second
+  --into FOLDER     with edition: write each TABLE there; one that is refused
+                    is named, and the others go on
+  --replace         with --into: also over files that have other content
   --from I, --to J  trace steps I to J alone
   --board P         trace the steps of board P alone
   --all             list every possible step, the first one first
@@ -82,7 +91,8 @@ five '-' is standard input.
 A value may follow its option after '=' too: --to=plain.
 
 Exit status: 0 answered; 1 the input is refused, and its number, place and
-reason are on standard error; 2 bad use, or a file cannot be read or written.
+reason are on standard error; 2 bad use, or a file cannot be read or written,
+or is in the way of --into.
 Try: macaroosh trace examples/w.bundle
      macaroosh draw examples/echo.table
      macaroosh replay examples/w-empty.bundle examples/w.log --trace
@@ -96,6 +106,7 @@ fn main() -> ExitCode {
         Ok(Asked::Version) => files::write(None, VERSION.as_bytes()).map(|()| 0),
         Ok(Asked::Nothing) => Err(USAGE.to_string()),
         Ok(Asked::Answer(request)) => answer(&request),
+        Ok(Asked::Move(shelf)) => shelf::moved(&shelf),
         Err(mistake) => Err(format!("macaroosh: {mistake}\nTry 'macaroosh --help'.\n")),
     });
     ExitCode::from(status.unwrap_or_else(|mistake| {
@@ -106,7 +117,7 @@ fn main() -> ExitCode {
 
 // Answers a request: its exit status, or what is wrong with its files.
 fn answer(request: &Request) -> Result<u8, String> {
-    if request.output.is_none() && request.command.writes_bytes() && system::output_is_terminal() {
+    if request.output.is_none() && request.command.writes_bytes() && system::is_terminal(1) {
         return Err("macaroosh: the output is bytes and no text for a terminal; give -o FILE\n".to_string());
     }
     let reply = reply(request)?;
@@ -133,9 +144,8 @@ fn write(request: &Request, reply: &Reply) -> Result<(), String> {
 
 fn reply(request: &Request) -> Result<Reply, String> {
     let path = request.output.as_deref();
-    let table = |input| files::read(input, &format!("a table has at most {MOST_TABLE}"));
     let bundle = |input| files::read(input, &format!("a bundle has at most {MOST_BYTES}"));
-    let standing = || request.standing.as_ref().map_or(Ok(ECHO.to_vec()), table);
+    let standing = || request.standing.as_ref().map_or(Ok(ECHO.to_vec()), files::table);
     let plain = request.style == Style::Plain;
     let ask = |answered: &dyn Fn(&Question) -> Result<Reply, String>| {
         let (bundle, standing) = (bundle(&request.input)?, standing()?);
@@ -147,7 +157,7 @@ fn reply(request: &Request) -> Result<Reply, String> {
         Command::First => ask(&|question| Ok(replies::first(question))),
         Command::All => ask(&replies::all),
         Command::Trace(part) => ask(&|question| Ok(trace::reply(question, part))),
-        Command::Draw(image) => draw::draw(&table(&request.input)?, image, path, plain),
+        Command::Draw(image) => draw::draw(&files::table(&request.input)?, image, path, plain),
         Command::DrawOf(image) => draw::draw_of(&bundle(&request.input)?, image, path, plain),
         Command::Undraw => {
             let most = format!("a drawing without blanks of its own has at most {MOST_DRAWING}");
@@ -160,6 +170,7 @@ fn reply(request: &Request) -> Result<Reply, String> {
         }
         Command::Replay(rows) => ask(&|question| replay(question, request, rows)),
         Command::Log => ask(&|question| Ok(log::say::reply(question, path))),
+        Command::Edition(to) => Ok(edition::reply(&files::table(&request.input)?, to, path, plain)),
     }
 }
 

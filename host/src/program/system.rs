@@ -56,10 +56,10 @@ pub fn stream(number: i32) -> io::Result<File> {
     borrowed.try_clone()
 }
 
-/// Whether standard output is a terminal.
-pub fn output_is_terminal() -> bool {
+/// Whether a stream that the program was started with is a terminal: standard output is 1, standard error 2.
+pub fn is_terminal(number: i32) -> bool {
     // SAFETY: the call asks about a number and changes nothing.
-    unsafe { c::isatty(1) == 1 }
+    unsafe { c::isatty(number) == 1 }
 }
 
 /// Gives a file to an owner and a group, so far as the user may: all of it, the group alone, or nothing.

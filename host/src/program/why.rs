@@ -5,7 +5,7 @@ use crate::kinds::{self, Kind};
 use crate::show::{counted, listed, message_of, sender};
 use macaroosh::calls::{run, Step};
 use macaroosh::parts::{distance, front, Parts};
-use macaroosh::terms::rules::{Layout, Threshold};
+use macaroosh::terms::rules::{Edition, Layout, Threshold};
 use macaroosh::{Form, Refusal, MOST_WORDS};
 
 /// The lines below the refusal of a bundle.
@@ -25,9 +25,11 @@ pub fn of_bundle(bundle: &[u8], standing: &[u8], refusal: Refusal) -> Vec<String
 
 /// The lines below the refusal of a table.
 pub fn of_table(table: &[u8], refusal: Refusal) -> Vec<String> {
-    match kinds::instead(table, Kind::Table) {
+    // From 30 on the table was read, so it is one.
+    let other = if refusal.number < 30 { kinds::instead(table, Kind::Table) } else { None };
+    match other {
         Some(other) => vec![format!("this is {other}")],
-        None => table_figures(table, refusal.number),
+        None => table_figures(table, refusal),
     }
 }
 
@@ -41,21 +43,21 @@ fn of_table_in_use(bundle: &[u8], standing: &[u8], refusal: Refusal) -> Vec<Stri
     match front(bundle) {
         Some(front) if !front.is_empty() => {
             let own = format!("that is the bundle's own table, its first {}", counted(front.len(), "byte"));
-            [vec![own], table_figures(front, refusal.number)].concat()
+            [vec![own], table_figures(front, refusal)].concat()
         }
         _ => {
             let beside = "that is the standing table, since the bundle has none of its own".to_string();
             let figures = match kinds::instead(standing, Kind::Table) {
                 Some(other) => vec![format!("its file is {other}")],
-                None => table_figures(standing, refusal.number),
+                None => table_figures(standing, refusal),
             };
             [vec![beside], figures].concat()
         }
     }
 }
 
-// The counts of a table's trailer; or its distances, and what they would have to be.
-fn table_figures(table: &[u8], number: u8) -> Vec<String> {
+// The counts of a table's trailer; or its distances, and what they would have to be; or a rule's divisors, or its edition.
+fn table_figures(table: &[u8], refusal: Refusal) -> Vec<String> {
     let (before, trailer) = table.split_at(table.len().saturating_sub(8));
     let (states, rules, layout, factor) = match *trailer {
         [_, _, _, _, states, rules, types_byte, factor] => {
@@ -64,9 +66,9 @@ fn table_figures(table: &[u8], number: u8) -> Vec<String> {
         _ => return Vec::new(),
     };
     let counts = [counted(states, "state"), counted(rules, "rule"), counted(layout.types, "type")].join(", ");
-    let edition = if layout.second { " (second edition)" } else { "" };
+    let edition = if layout.edition == Edition::Second { " (second edition)" } else { "" };
     let long = layout.rule_size();
-    match number {
+    match refusal.number {
         2 => vec![format!("its trailer says {counts}{edition}, k = {factor}")],
         3 => vec![
             format!(
@@ -83,8 +85,21 @@ fn table_figures(table: &[u8], number: u8) -> Vec<String> {
                 all = 2 * states + rules * long
             ),
         ],
+        32 => divisors(layout, &before[2 * states..], refusal.place as usize),
+        33 => vec![format!("its types byte is {}: {}", layout.edition.types_byte(layout.types), counted_in(layout))],
         _ => Vec::new(),
     }
+}
+
+// Each divisor of a rule that is not 1.
+fn divisors(layout: Layout, rules: &[u8], rule: usize) -> Vec<String> {
+    let record = rules.chunks_exact(layout.rule_size()).nth(rule).unwrap_or(&[]);
+    let others = layout.thresholds(record).enumerate().filter(|(_, threshold)| threshold.e != 1);
+    others.map(|(m, threshold)| format!("rule {rule} has e = {} for type {m}", threshold.e)).collect()
+}
+
+fn counted_in(layout: Layout) -> String {
+    format!("{} in the {} edition", counted(layout.types, "type"), layout.edition.name())
 }
 
 // The figures of a schedule's trailer, or of a start.

@@ -1,11 +1,54 @@
 //! How a table's rules lie in its bytes, and what they ask for.
 
-/// The layout of a table's rules, which the types byte of its trailer tells: T in the first edition, and 16 higher in the second,
-/// where each type has a divisor.
+/// The edition of a table's rules, which the types byte of its trailer tells: T in the first, and 16 higher in the second.
+#[derive(Clone, Copy, Debug, PartialEq, Eq)]
+pub enum Edition {
+    /// Thresholds without a divisor.
+    First,
+    /// A divisor for each type.
+    Second,
+}
+
+impl Edition {
+    /// Both.
+    pub const ALL: [Edition; 2] = [Edition::First, Edition::Second];
+
+    /// The edition and the number of types that a types byte tells, also where no table has so many.
+    pub fn of(types_byte: usize) -> (Edition, usize) {
+        if types_byte < 16 {
+            (Edition::First, types_byte)
+        } else {
+            (Edition::Second, types_byte - 16)
+        }
+    }
+
+    /// The types byte for so many types.
+    pub fn types_byte(self, types: usize) -> usize {
+        match self {
+            Edition::First => types,
+            Edition::Second => types + 16,
+        }
+    }
+
+    /// The edition of a name.
+    pub fn named(name: &str) -> Option<Edition> {
+        Edition::ALL.into_iter().find(|edition| edition.name() == name)
+    }
+
+    /// Its name.
+    pub fn name(self) -> &'static str {
+        match self {
+            Edition::First => "first",
+            Edition::Second => "second",
+        }
+    }
+}
+
+/// The layout of a table's rules.
 #[derive(Clone, Copy, Debug, PartialEq, Eq)]
 pub struct Layout {
-    /// Whether it is the second edition.
-    pub second: bool,
+    /// The edition.
+    pub edition: Edition,
     /// T, also where no table has so many types.
     pub types: usize,
 }
@@ -13,16 +56,15 @@ pub struct Layout {
 impl Layout {
     /// The layout that a types byte tells.
     pub fn of(types_byte: u8) -> Layout {
-        let second = types_byte >= 16;
-        Layout { second, types: usize::from(if second { types_byte - 16 } else { types_byte }) }
+        let (edition, types) = Edition::of(types_byte.into());
+        Layout { edition, types }
     }
 
     // How many bytes a rule has for one type: a, b, d, and e in the second edition.
     fn wide(self) -> usize {
-        if self.second {
-            4
-        } else {
-            3
+        match self.edition {
+            Edition::First => 3,
+            Edition::Second => 4,
         }
     }
 

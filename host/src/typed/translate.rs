@@ -3,13 +3,11 @@
 use crate::library::calls;
 use crate::terms::form::Form;
 use crate::terms::refusals::Refusal;
+use crate::typed::owned;
 
 /// The bundle in another form. Its own form is refused (31), and so is a schedule that does not run, as `run` refuses it.
 pub fn translate(bundle: &[u8], standing: &[u8], form: Form) -> Result<Vec<u8>, Refusal> {
-    let mut out = vec![0; bundle.len()];
-    let written = translate_into(bundle, standing, form, &mut out)?;
-    out.truncate(written);
-    Ok(out)
+    owned(bundle.len(), |out| translate_into(bundle, standing, form, out))
 }
 
 /// The same to lent bytes, of which as many as the bundle has are enough: how many were written. A refusal leaves them as they

@@ -1,6 +1,7 @@
 //! The table of figures, tests/figures.txt of the repository, whose head says how it is written. What is no line of it panics.
 
 use macaroosh::calls::{Answer, First, Step};
+use macaroosh::terms::rules::Edition;
 use macaroosh::ECHO;
 use std::collections::BTreeMap;
 use std::fmt::Debug;
@@ -55,16 +56,24 @@ impl Case {
     }
 }
 
+/// A table that is moved to an edition.
+#[derive(Clone, Debug)]
+pub struct Moved {
+    pub to: Edition,
+    pub table: Vec<u8>,
+    pub answer: Answer,
+    /// The table that is written; empty where nothing is.
+    pub writes: Vec<u8>,
+}
+
 /// All cases.
 pub fn cases() -> Vec<Case> {
-    let mut named = BTreeMap::new();
+    let named = named();
     let mut cases: Vec<Case> = Vec::new();
-    for line in TEXT.lines().filter(|line| !line.is_empty() && !line.starts_with('#')) {
+    for line in lines().filter(|line| !line.starts_with('$') && !line.starts_with("moves ")) {
         if let Some(name) = line.strip_prefix('[').and_then(|line| line.strip_suffix(']')) {
             assert!(cases.iter().all(|case| case.name != name), "two cases are {name}");
             cases.push(Case { name: name.to_string(), ..Case::default() });
-        } else if let Some((name, text)) = line.split_once(" = ") {
-            named.insert(name, bytes(text, &named));
         } else {
             said(cases.last_mut().unwrap_or_else(|| panic!("a line before the first case: {line}")), line, &named);
         }
@@ -75,6 +84,35 @@ pub fn cases() -> Vec<Case> {
 /// The case of that name.
 pub fn case(name: &str) -> Case {
     cases().into_iter().find(|case| case.name == name).unwrap_or_else(|| panic!("there is no case {name}"))
+}
+
+/// All tables that are moved.
+pub fn moves() -> Vec<Moved> {
+    let named = named();
+    lines().filter_map(|line| line.strip_prefix("moves ")).map(|line| moved(line, &named)).collect()
+}
+
+fn lines() -> impl Iterator<Item = &'static str> {
+    TEXT.lines().filter(|line| !line.is_empty() && !line.starts_with('#'))
+}
+
+// The bytes that have names.
+fn named() -> BTreeMap<&'static str, Vec<u8>> {
+    let mut named = BTreeMap::new();
+    for (name, text) in lines().filter(|line| line.starts_with('$')).filter_map(|line| line.split_once(" = ")) {
+        let bytes = bytes(text, &named);
+        assert!(named.insert(name, bytes).is_none(), "two are named {name}");
+    }
+    named
+}
+
+// The edition, the answer's three numbers, the table, and what is written.
+fn moved(said: &str, named: &BTreeMap<&str, Vec<u8>>) -> Moved {
+    let (before, writes) = said.split_once(" -> ").unwrap_or((said, ""));
+    let (to, rest) = before.split_once(' ').unwrap_or((before, ""));
+    let (numbers, table) = first_numbers(rest);
+    let to = Edition::named(to).unwrap_or_else(|| panic!("no edition: {said}"));
+    Moved { to, table: bytes(table, named), answer: answer(&numbers), writes: bytes(writes, named) }
 }
 
 // What a line says of a case.
@@ -112,9 +150,15 @@ fn said(case: &mut Case, line: &str, named: &BTreeMap<&str, Vec<u8>>) {
 
 // The answer's three numbers, and then the text.
 fn log(said: &str) -> Log {
+    let (numbers, text) = first_numbers(said);
+    let text = text.replace(';', "\n").replace('!', "\r");
+    Log { text, answer: answer(&numbers), makes: Vec::new() }
+}
+
+// The first three words, and the rest.
+fn first_numbers(said: &str) -> (String, &str) {
     let words: Vec<&str> = said.splitn(4, ' ').collect();
-    let text = words.get(3).unwrap_or(&"").replace(';', "\n").replace('!', "\r");
-    Log { text, answer: answer(&words[..words.len().min(3)].join(" ")), makes: Vec::new() }
+    (words[..words.len().min(3)].join(" "), words.get(3).copied().unwrap_or(""))
 }
 
 fn bytes(text: &str, named: &BTreeMap<&str, Vec<u8>>) -> Vec<u8> {

@@ -1,7 +1,7 @@
 -- The word and the number, one put after the other.
 use borrow.Author.Needs.{needs}
 use native.Mathlib.Omega.{arith}
-use Rattle.pen.proofs.PenLaws.{put-then}
+use Rattle.ink.proofs.InkLaws.{put-then}
 use Rattle.pen.proofs.put_numbered.Statement.{statement}
 use Rattle.pen.proofs.put_numbered.Tie as tie
 

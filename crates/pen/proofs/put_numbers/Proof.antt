@@ -9,7 +9,7 @@ use Rattle.fault.specs.Bytes.{byteAt}
 use Rattle.dot.specs.Text.{numbersText}
 use Rattle.dot.proofs.ShapeLaws.{place-first, place-next, place-below}
 use Rattle.pen.specs.Pen.{alone}
-use Rattle.pen.proofs.PenLaws.{RestPut, rest-all}
+use Rattle.ink.proofs.InkLaws.{RestPut, rest-all}
 use Rattle.pen.proofs.TextLaws.{numbers-first}
 use Rattle.pen.proofs.PartLaws.{numbers-turn, put-numbers-end}
 use Rattle.pen.proofs.put_numbers.Statement.{statement}

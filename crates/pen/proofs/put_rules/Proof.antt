@@ -7,7 +7,7 @@ use lib.ListN.{length}
 use Rattle.table.specs.Table.{statesOf, rulesOf, typesByte, ruleAt, stateBytes}
 use Rattle.dot.specs.Text.{rulesText}
 use Rattle.pen.specs.Pen.{alone, mostRuleText}
-use Rattle.pen.proofs.PenLaws.{RestPut, rest-all}
+use Rattle.ink.proofs.InkLaws.{RestPut, rest-all}
 use Rattle.pen.proofs.TextLaws.{rules-first}
 use Rattle.pen.proofs.PartLaws.{rules-turn, rules-end}
 use Rattle.pen.proofs.put_rules.Statement.{statement}

@@ -7,7 +7,7 @@ use lib.ListN.{length}
 use Rattle.table.specs.Table.{statesOf}
 use Rattle.dot.specs.Text.{statesText}
 use Rattle.pen.specs.Pen.{alone, mostStateText}
-use Rattle.pen.proofs.PenLaws.{RestPut, rest-all}
+use Rattle.ink.proofs.InkLaws.{RestPut, rest-all}
 use Rattle.pen.proofs.TextLaws.{states-first}
 use Rattle.pen.proofs.PartLaws.{states-turn, states-end}
 use Rattle.pen.proofs.put_states.Statement.{statement}

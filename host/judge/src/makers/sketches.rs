@@ -54,8 +54,8 @@ pub fn tokens(text: &str) -> Vec<String> {
     tokens
 }
 
-// What a table without a fault is drawn as; its coefficients are any.
-fn sound(dice: &mut Dice) -> Drawing {
+/// What a table without a fault is drawn as; its coefficients are any.
+pub(super) fn sound(dice: &mut Dice) -> Drawing {
     let table = read_table(&bundles::table(dice)).expect("a table without a fault");
     let mut drawing = Drawing::of(&table);
     if dice.once_in(2) {
@@ -116,8 +116,8 @@ fn spoil(dice: &mut Dice, drawing: &mut Drawing) {
     }
 }
 
-// Every e, rule by rule.
-fn all_divisors(drawing: &mut Drawing) -> impl Iterator<Item = &mut u8> {
+/// Every e, rule by rule.
+pub(super) fn all_divisors(drawing: &mut Drawing) -> impl Iterator<Item = &mut u8> {
     drawing.rules.iter_mut().flat_map(|rule| &mut rule.coefficients).map(|coefficients| &mut coefficients.e)
 }
 

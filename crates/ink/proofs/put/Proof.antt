@@ -1,9 +1,9 @@
 -- Where n is inside, the byte is set there; past the end nothing changes. Either way it is `stored` of one byte.
 use native.Mathlib.Omega.{arith}
 use borrow.Author.Needs.{needs}
-use Rattle.pen.proofs.PenLaws.{stored-fits, stored-over}
-use Rattle.pen.proofs.put.Statement.{statement}
-use Rattle.pen.proofs.put.Tie as tie
+use Rattle.ink.proofs.InkLaws.{stored-fits, stored-over}
+use Rattle.ink.proofs.put.Statement.{statement}
+use Rattle.ink.proofs.put.Tie as tie
 
 pub put-spec : {M : Type 1} → statement M
 put-spec =

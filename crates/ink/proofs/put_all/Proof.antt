@@ -4,9 +4,9 @@ use Prim.Native.Nat.{_+_, _-_, _≤_}
 use native.Mathlib.Omega.{arith}
 use borrow.Author.Needs.{needs}
 use lib.ListN.{length, drop}
-use Rattle.pen.proofs.PenLaws.{RestPut, rest-all, word-more, word-over}
-use Rattle.pen.proofs.put_all.Statement.{statement}
-use Rattle.pen.proofs.put_all.Tie as tie
+use Rattle.ink.proofs.InkLaws.{RestPut, rest-all, word-more, word-over}
+use Rattle.ink.proofs.put_all.Statement.{statement}
+use Rattle.ink.proofs.put_all.Tie as tie
 
 abbrev Inv-loop : tie.InvT-loop
 Inv-loop out₀ n word i₀ m₀ out i m = (i ≤ length word) × (m ≡ n + i) × (length out ≡ length out₀) × RestPut out₀ n word out m (drop i word)

@@ -10,7 +10,7 @@ use lib.ListN.{length, set, getD, drop, length-set, length-append, drop-of-lengt
 use lib.Seq.{drop-cons, sets, sets-eq}
 use borrow.Author.Tests.{lt-ltb, le-ltb}
 use Rattle.fault.specs.Fault.{_if_else_}
-use Rattle.pen.specs.Pen.{stored, Put}
+use Rattle.ink.specs.Ink.{stored, Put}
 
 pub stored-fits : (out : List ℕ) (n b : ℕ) → n < length out → set out n b ≡ stored out n (b ∷ [])
 unfolding stored _if_else_

@@ -1,0 +1,3 @@
+pub mod MovedLaws
+pub mod EntryLaws
+pub mod BoundLaws

@@ -1,0 +1,2 @@
+pub mod InkLaws
+pub mod GivenLaws
