@@ -1,5 +1,6 @@
 -- No echo from nothing. One invariant, kept by every move of every form: all boards in V0, nothing sent, and what `Sound` says of it.
--- So a board counts at most f messages, and f ≤ t is less than rules 1 and 2 ask for: t + 1, and n - t.
+-- So a board counts at most f messages, and f ≤ t is less than rules 1 and 2 ask for: t + 1, and n - t. The argument is made once, of the
+-- design that the echo table comes to; every table that says the same comes to that design, by a path.
 use mathlib.Core.Path.{_≡_, refl, sym, ap, _∙_, subst, subst⁻¹}
 use mathlib.Core.Bool.{Bool, true, false, true≢false, not}
 use mathlib.Core.List.{List, _++_}
@@ -16,8 +17,9 @@ use Rattle.senders.proofs.TallyLaws.{count-none, count-at-most}
 use Rattle.senders.proofs.SetLaws.{set-laws, count-laws}
 use Rattle.threshold.specs.Threshold.{signedByte, sumOf}
 use Rattle.fault.specs.Fault.{_if_else_}
-use Rattle.layout.specs.Layout.{typesIn, typeBytes, weightBytes, divisorAt, weightsAt, weightsOf}
-use Rattle.table.specs.Table.{ruleAt, ruleOf, weightsFor}
+use Rattle.layout.specs.Layout.{second, typesIn, typeBytes, weightBytes, divisorAt, weightsAt, weightsOf}
+use Rattle.table.specs.Table.{rulesOf, typesByte, typesOf, ruleAt, ruleOf, weightsFor}
+use Rattle.table.specs.Facts.{Sized}
 use Rattle.paper.specs.Paper.{Design, Conf, Step, Moves, column, newly}
 use Rattle.paper.specs.Words.{size, cellAt, sentAt, state, cell, sent, start}
 use Rattle.paper.specs.Form.{wide, shown}
@@ -36,7 +38,8 @@ use Rattle.bundle.specs.Refusals.{readFault}
 use Rattle.bundle.specs.Facts.{Read}
 use Rattle.bundle.proofs.BundleLaws.{use-standing, use-front, read-by, read-within}
 use Rattle.engine.specs.Design.{designIn, designWith, sizesIn}
-use Rattle.rules.specs.Design.{metAt}
+use Rattle.rules.specs.Design.{metAt, designOf}
+use Rattle.words.specs.declared.Sizes.{Sizes}
 use Rattle.words.specs.Words.{roomOf}
 use Rattle.engine.specs.Entry.{scheduleOf, ranWith, runAnswer, runWords}
 use Rattle.fault.specs.declared.Answer.{Answer}
@@ -44,10 +47,13 @@ use Rattle.engine.proofs.EntryLaws.{enter-refused, enter-short, enter-run}
 use Rattle.first_step.specs.declared.First.{First}
 use Rattle.paper.specs.Order.{Found, none, found, first}
 use Rattle.first_step.specs.Entry.{answerOf, afterRun, firstAnswer}
-use Rattle.claims.specs.NoEcho.{echoTable, Quiet, Admits, designFor, fromV0, Never, Uses, front, beside, InV0, Configures, whole, stopped, NoEcho, Q5}
+use Rattle.same.specs.Same.{SameTable}
+use Rattle.same.proofs.Tables.{design-same}
+use Rattle.claims.specs.NoEcho.{echoTable, echoSecond, Quiet, Admits, designFor, fromV0, Never, Uses, front, beside, InV0, Configures, whole, stopped, NoEcho, Q5}
 use Rattle.claims.proofs.Thresholds.{met-by-sum}
 use Rattle.claims.proofs.FirstStep.{first-possible}
 use Rattle.claims.proofs.OneEcho.{one-enough}
+use Rattle.claims.proofs.MovedTables.{moved-same}
 
 -- ---- what rules 1 and 2 ask for, from the table's bytes
 by-sum : (r n t c : ℕ) → 1 ≤ weightsFor echoTable r 0 .e → metAt echoTable r 0 n t c ≡ true → leZ (sumOf (weightsFor echoTable r 0) n t) (pos (c * weightsFor echoTable r 0 .e)) ≡ true
@@ -84,6 +90,12 @@ few-heard zero C f M h = omega (arith, count-laws C f .add-up M, count-none C (m
         go true e = absurd (true≢false (sym (i e) ∙ set-laws .empty q))
 few-heard (suc zero) C f c h = omega (arith, h .0, h .1)
 few-heard (suc (suc k)) C f c h = omega (arith, h)
+
+-- ---- what a run leaves, said of its design and its words alone
+record Settled (k : ℕ) (d : Design) (w : List ℕ) : Type 0 where
+  long : length w ≡ size (d .boards) (d .types) (wide k)
+  quiet : Quiet k d w
+  waits : (s : Step) → stepFault k d w s ≡ 0 → s .rule ≡ 0
 
 -- ---- the echo table forgets nothing
 module _ (k C f t : ℕ) where
@@ -201,16 +213,35 @@ module _ (k C f t : ℕ) where
     run-stays : (ss : List Step) (w : List ℕ) → Stays w → Stays (run k d w ss .left)
     run-stays ss w = run-keeps (machineOf k d) Stays step-stays w ss
 
-    -- ---- schedules
-    from-zeros : (ss : List Step) → Stays (run k d (fromV0 echoTable k C) ss .left)
-    from-zeros ss = run-stays ss (fromV0 echoTable k C) (start-stays (replicate C 0) (length-replicate C 0) (λ p h. getD-replicate C p 0 0 h))
+    -- ---- from starts in V0
+    leaves : (starts : List ℕ) → length starts ≡ C → ((p : ℕ) → p < C → getD starts p 0 ≡ 0) → (ss : List Step) → Settled k d (run k d (start (d .types) (wide k) starts) ss .left)
+    leaves starts l z ss =
+        let S = run-stays ss (start (d .types) (wide k) starts) (start-stays starts l z) in
+        record { long = S .long; quiet = quiet _ S; waits = λ s. step-rule _ s S }
 
-    never : (ss : List Step) → Never k d (fromV0 echoTable k C) ss
-    never ss = record {
-      reached = λ i. quiet _ (from-zeros (take i ss));
-      left = quiet _ (from-zeros ss);
-      waits = λ s z. step-rule _ s (from-zeros ss) z;
-    }
+-- ---- of every table that says the same
+module _ (table : List ℕ) (E : SameTable echoTable table) (k C f t : ℕ) where
+  abbrev numbers : ℕ → ℕ → Sizes
+  numbers T R = record { level = k; correct = C; faulty = f; types = T; rules = R; wide = wide k; row = T * wide k }
+
+  one-design : designFor echoTable k C f t ≡ designFor table k C f t
+  one-design = design-same echoTable table E (numbers (typesOf echoTable) (rulesOf echoTable)) t refl refl ∙ (λ i. designOf (numbers (E .types i) (E .rules i)) t table)
+
+  module _ (A : Admits table C f t) where
+    admits-echo : Admits echoTable C f t
+    admits-echo = record { enough = subst⁻¹ (λ (x : ℕ). x * t < C + f) (E .factor) (A .enough); faulty = A .faulty }
+
+    -- what holds of what is left goes along
+    settles : (starts : List ℕ) → length starts ≡ C → ((p : ℕ) → p < C → getD starts p 0 ≡ 0) → (ss : List Step) →
+        Settled k (designFor table k C f t) (run k (designFor table k C f t) (start (typesOf table) (wide k) starts) ss .left)
+    settles starts l z ss = subst (λ (d : Design). Settled k d (run k d (start (d .types) (wide k) starts) ss .left)) one-design (leaves k C f t admits-echo starts l z ss)
+
+    -- ---- schedules
+    from-zeros : (ss : List Step) → Settled k (designFor table k C f t) (run k (designFor table k C f t) (fromV0 table k C) ss .left)
+    from-zeros = settles (replicate C 0) (length-replicate C 0) (λ p h. getD-replicate C p 0 0 h)
+
+    never : (ss : List Step) → Never k (designFor table k C f t) (fromV0 table k C) ss
+    never ss = record { reached = λ i. from-zeros (take i ss) .quiet; left = from-zeros ss .quiet; waits = from-zeros ss .waits }
 
 -- ---- words past a configuration are not part of it
 module _ (k : ℕ) (d : Design) (u v : List ℕ) (l : length u ≡ size (d .boards) (d .types) (wide k)) where
@@ -246,41 +277,37 @@ not-thirty (stopped a b) = omega arith
 refused-no-step : (x y p r m q : ℕ) → First.Refused x y ≡ First.Step p r m q → ⊥
 refused-no-step x y p r m q e = let z : _≡_ {A = ℕ} 0 1 = cc in absurd (omega arith)
 
-module _ (b standing : List ℕ) (B : InV0 echoTable b standing) where
-  in-use : tableInUse b standing ≡ echoTable
+module _ (table : List ℕ) (E : SameTable echoTable table) (b standing : List ℕ) (B : InV0 table b standing) where
+  -- a table that has rules is not empty
+  in-use : tableInUse b standing ≡ table
   in-use = go (B .uses)
     where
-      go : Uses echoTable b standing → tableInUse b standing ≡ echoTable
+      go : Uses table b standing → tableInUse b standing ≡ table
       go (beside z e) = sym (use-standing b standing refl z) ∙ e
-      go (front e) = sym (use-front b standing refl (λ z. let q : _≡_ {A = ℕ} 0 51 = ap length (ap (λ (x : ℕ). take x b) (sym z) ∙ e) in omega arith)) ∙ e
+      go (front e) = sym (use-front b standing refl (λ z. let q : _≡_ {A = ℕ} 0 (rulesOf table) = ap rulesOf (ap (λ (x : ℕ). take x b) (sym z) ∙ e) in omega (arith, q, E .rules))) ∙ e
 
   abbrev design : Design
-  design = designWith echoTable b
+  design = designWith table b
 
   abbrev level : ℕ
   level = levelOf (formOf b)
 
   abbrev left : List ℕ
-  left = ranWith echoTable b .left
+  left = ranWith table b .left
 
   module _ (z : readFault b standing .number ≡ 0) where
-    read : Read echoTable b
+    read : Read table b
     read = read-by b standing refl z (sym in-use)
 
-    admits : Admits echoTable (correctOf b) (fOf b) (tOf b)
+    admits : Admits table (correctOf b) (fOf b) (tOf b)
     admits = record { enough = omega (arith, read .admitted .enough, read .all); faulty = read .admitted .faulty }
 
-    left-stays : Stays level (correctOf b) (fOf b) (tOf b) left
+    settled : Settled level design left
     unfolding ranWith
-    left-stays =
-        run-stays level (correctOf b) (fOf b) (tOf b) admits (scheduleOf b) _
-        (start-stays level (correctOf b) (fOf b) (tOf b) (startsOf b) (read .parted .starts-long) (B .starts))
+    settled = settles table E level (correctOf b) (fOf b) (tOf b) admits (startsOf b) (read .parted .starts-long) (B .starts) (scheduleOf b)
 
     left-quiet : (v : List ℕ) → Quiet level design (left ++ v)
-    left-quiet v = quiet-past level design left v (left-stays .long) (quiet level (correctOf b) (fOf b) (tOf b) left left-stays)
-
-    left-rule : (s : Step) → stepFault level design left s ≡ 0 → s .rule ≡ 0
-    left-rule s = step-rule level (correctOf b) (fOf b) (tOf b) admits left s left-stays
+    left-quiet v = quiet-past level design left v (settled .long) (settled .quiet)
 
   -- ---- `run`
   module _ (words : List ℕ) (c : Configures (runAnswer b standing (length words) .refusal)) where
@@ -309,7 +336,7 @@ module _ (b standing : List ℕ) (B : InV0 echoTable b standing) where
   unfolding firstAnswer
   unread n = if-yes _ refl refl (ap not (ne-eqb _ 0 n))
 
-  read-on : readFault b standing .number ≡ 0 → afterRun echoTable b ≡ firstAnswer b standing
+  read-on : readFault b standing .number ≡ 0 → afterRun table b ≡ firstAnswer b standing
   unfolding firstAnswer
   read-on z = ap (λ (x : List ℕ). afterRun x b) (sym in-use) ∙ if-no _ refl (ap not (eq-eqb _ 0 z)) refl
 
@@ -320,7 +347,7 @@ module _ (b standing : List ℕ) (B : InV0 echoTable b standing) where
 
     named : readFault b standing .number ≡ 0 → (x : Found) → first level design left ≡ x → answerOf x ≡ First.Step p r m q → r ≡ 0
     named z none e g = let y : _≡_ {A = ℕ} 0 1 = cc in absurd (omega arith)
-    named z (found s) e g = let y : r ≡ s .rule = cc in y ∙ left-rule z s (first-possible level design left .accepted s e)
+    named z (found s) e g = let y : r ≡ s .rule = cc in y ∙ settled z .waits s (first-possible level design left .accepted s e)
 
     firsts : r ≡ 0
     firsts = go (ℕ-discrete (readFault b standing .number) 0)
@@ -329,8 +356,41 @@ module _ (b standing : List ℕ) (B : InV0 echoTable b standing) where
         go (yes z) = named z _ refl (after-run z)
         go (no n) = absurd (refused-no-step _ _ p r m q (unread n ∙ h))
 
-no-echo : NoEcho echoTable
-no-echo = record { never = never; runs = λ b standing words B. runs b standing B words; firsts = firsts }
+no-echo : (table : List ℕ) → SameTable echoTable table → NoEcho table
+no-echo table E = record { never = never table E; runs = λ b standing words B. runs table E b standing B words; firsts = firsts table E }
+
+-- ---- of the echo table in both editions
+itself : SameTable echoTable echoTable
+itself = record {
+  states = refl;
+  rules = refl;
+  types = refl;
+  factor = refl;
+  flags = λ i h. refl;
+  sent = λ i h. refl;
+  from = λ r h. refl;
+  to = λ r h. refl;
+  weights = λ r m h l. refl;
+}
+
+sized : Sized echoTable
+unfolding typesIn typeBytes weightBytes _if_else_
+sized = record {
+  long = omega arith;
+  some-state = omega arith;
+  few-states = omega arith;
+  some-rule = omega arith;
+  few-rules = omega arith;
+  some-type = omega arith;
+  few-types = omega arith;
+  some-factor = omega arith;
+  few-factor = omega arith;
+  whole = refl;
+}
+
+moved : SameTable echoTable echoSecond
+unfolding typesIn _if_else_
+moved = moved-same (typesByte echoTable + second) echoTable refl sized (λ r m _ _ e. absurd (true≢false e))
 
 pub q5 : Q5
-q5 = record { holds = no-echo; table = refl; fails = one-enough }
+q5 = record { holds = no-echo echoTable itself; same = no-echo; second = no-echo echoSecond moved; table = refl; fails = one-enough }

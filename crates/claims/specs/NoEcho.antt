@@ -1,11 +1,12 @@
 -- Q-5, "No echo from nothing": property (b) of the source's introduction. Where every board starts in V0, no schedule of the echo table
--- brings a board to SE or AC, in any form, and nothing is ever sent. Proofs: proofs/NoEcho.antt.
+-- brings a board to SE or AC, in any form, and nothing is ever sent; in either edition (Q-7). Proofs: proofs/NoEcho.antt.
 use mathlib.Core.Path.{_≡_}
 use mathlib.Core.List.{List, [], _∷_}
 use Prim.Native.Nat.{ℕ, _+_, _*_, _≤_, _<_}
 use lib.ListN.{length, take, set, replicate}
 use Rattle.fault.specs.Bytes.{byteAt}
-use Rattle.table.specs.Table.{rulesOf, typesOf, factorOf}
+use Rattle.layout.specs.Layout.{second}
+use Rattle.table.specs.Table.{rulesOf, typesByte, typesOf, factorOf}
 use Rattle.bundle.specs.Bundle.{formOf, correctOf, frontLength, startsOf, levelOf}
 use Rattle.paper.specs.Paper.{Design, Step}
 use Rattle.paper.specs.Words.{state, sent, start}
@@ -17,11 +18,17 @@ use Rattle.engine.specs.Design.{designIn}
 use Rattle.engine.specs.Entry.{runAnswer, runWords}
 use Rattle.first_step.specs.declared.First.{First}
 use Rattle.first_step.specs.Entry.{firstAnswer}
+use Rattle.editions.specs.Moved.{movedTo}
+use Rattle.same.specs.Same.{SameTable}
 use Rattle.echo.specs.Echo.{echo, asking}
 
 -- ---- the echo table, by what its rule 1 asks for: the outline's asks for t + 1
 abbrev pub echoTable : List ℕ
 echoTable = asking 1
+
+-- in the second edition, as `to_second` writes it (Q-8)
+abbrev pub echoSecond : List ℕ
+echoSecond = movedTo (typesByte echoTable + second) echoTable
 
 -- ---- a configuration in which nothing has come of nothing
 pub record Quiet (k : ℕ) (d : Design) (w : List ℕ) : Type 0 where
@@ -82,6 +89,9 @@ pub record NoEcho (table : List ℕ) : Type 0 where
 
 pub record Q5 : Type 0 where
   pub holds : NoEcho echoTable
+  -- of every table that says the same, whatever its bytes; so of the echo table in the second edition
+  pub same : (table : List ℕ) → SameTable echoTable table → NoEcho table
+  pub second : NoEcho echoSecond
   pub table : echo ≡ echoTable
   -- it can fail: where rule 1 asks for t, `run` accepts `oneEcho 1 0 3`, which refutes it
   pub fails : NoEcho (asking 0) → ⊥
