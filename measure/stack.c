@@ -1,6 +1,6 @@
 /* The deepest stack of each exported call, its return address included: each is called on a painted stack of its own, on
- * schedule W in each form and for each form asked for, or the echo table, its drawing and its second edition, or W's log, and the
- * lowest byte that lost its paint is looked up. Prints 'NAME BYTES'. */
+ * schedule W in each form and for each form asked for, or the echo table, its drawing and its second edition, or W's log, or a
+ * search that goes eight steps deep, and the lowest byte that lost its paint is looked up. Prints 'NAME BYTES'. */
 #define _XOPEN_SOURCE 600
 #include "macaroosh.h"
 
@@ -38,9 +38,12 @@ static const char service_log[] =
     "board 2 rule 4 type 0 from 3\n"
     "board 2 rule 5 type 0 from 1\n";
 
-static uint8_t stack[1 << 16], out[31], text[MACAROOSH_MOST_DRAWING], table[MACAROOSH_MOST_TABLE], back[sizeof echo];
+/* Six boards without an echo to send, of which each may hear two faulty ones: n = 8, t = f = 2, in counting form. */
+static const uint8_t silent[] = {0x00, 0x00, 0x00, 0x00, 0x00, 0x00, 0x00, 0x00, 0x06, 0x00, 0x08, 0x02, 0x02, 0x01};
+
+static uint8_t stack[1 << 16], out[32], text[MACAROOSH_MOST_DRAWING], table[MACAROOSH_MOST_TABLE], back[sizeof echo];
 static size_t text_length, table_length;
-static uint64_t words[MACAROOSH_MOST_WORDS];
+static uint64_t words[MACAROOSH_MOST_WORDS], tried;
 static const uint8_t *w;
 static uint64_t asked;
 static ucontext_t here, there;
@@ -61,6 +64,10 @@ static void undraw(void) { answer = macaroosh_undraw(text, text_length, table, s
 static void replay(void) {
     answer = macaroosh_replay(without_steps, sizeof without_steps, echo, sizeof echo, (const uint8_t *)service_log,
                               sizeof service_log - 1, out, sizeof out, words, MACAROOSH_MOST_WORDS);
+}
+
+static void search(void) {
+    answer = macaroosh_search(silent, sizeof silent, echo, sizeof echo, MACAROOSH_MOST_DEPTH, 2000, out, sizeof out, &tried);
 }
 
 static void to_second(void) { answer = macaroosh_to_second(echo, sizeof echo, table, sizeof table); }
@@ -101,6 +108,7 @@ int main(void) {
     text_length = macaroosh_count(answer);
     measure("macaroosh_undraw", undraw);
     measure("macaroosh_replay", replay);
+    measure("macaroosh_search", search);
     measure("macaroosh_to_second", to_second);
     table_length = macaroosh_count(answer);
     measure("macaroosh_to_first", to_first);

@@ -88,6 +88,26 @@ uint64_t macaroosh_replay(const uint8_t *bundle, size_t bundle_length, const uin
                           const uint8_t *log, size_t log_length, uint8_t *out, size_t out_length, uint64_t *words,
                           size_t words_length);
 
+/* The most steps that a search goes deep. */
+#define MACAROOSH_MOST_DEPTH 8
+
+/* What a search counts where there is no schedule as asked for, and where its budget was spent before. */
+#define MACAROOSH_NONE 16
+#define MACAROOSH_SPENT 17
+
+/* Searches for a schedule of at most `depth` steps more, after the schedule of a bundle in counting form, that puts some board in
+ * an accepting state. It goes depth first, in the order of macaroosh_first_step: at each configuration all rules of the table are
+ * tried for each board, with no message, but not where the rule's from is its to, and then with each type and both sources. Each
+ * try counts, accepted or refused; before each it is asked whether as many as `budget` were tried. Nothing is pruned. Where a board
+ * is in an accepting state already, no step is needed and none is tried. Answers packed: refusal, place, outcome: 0 to 8 for a
+ * schedule of so many steps, the first in that order, which need not be the shortest; MACAROOSH_NONE, given exactly where there is
+ * no such schedule and the budget sufficed; or MACAROOSH_SPENT. The steps found are written to `out`, 4 bytes each; no other byte
+ * of it changes, and none with another outcome or with a refusal. `out` needs 4 * depth bytes, whatever is found. `tried`, which
+ * may not be NULL, is set to the number tried, and to 0 with any refusal, which is the one thing that a refusal writes. The
+ * refusals after 14 are 34 (all 64 bits are looked at), 35, 30, then a step's. */
+uint64_t macaroosh_search(const uint8_t *bundle, size_t bundle_length, const uint8_t *standing, size_t standing_length,
+                          uint64_t depth, uint64_t budget, uint8_t *out, size_t out_length, uint64_t *tried);
+
 /* Writes a first-edition table part in the second edition, with e = 1 for every rule and type, to the lent bytes, of which
  * MACAROOSH_MOST_TABLE are always enough; any schedule runs the same on both. Answers packed: refusal (1 to 9, 33, 30), place,
  * bytes written. Any refusal leaves the bytes as they were. Bytes past the written ones never change. */
@@ -109,8 +129,9 @@ uint64_t macaroosh_to_first(const uint8_t *table, size_t table_length, uint8_t *
  *   14 a start is not an initial state [board]     31 its own form is asked for, or none (translate_to)
  *   52 the bundle has steps or is not in message form (replay)
  *   51 a line 4,096 is there [line] (replay)       50 a line of another shape, or a number over 254 [line] (replay)
+ *   34 a depth over 8 (search)                     35 not in counting form (search)
  *   32 a divisor is not 1 [rule] (to_first)        33 in that edition already (to_second, to_first)
- *   30 lent output too short (run, translate, translate_to, to_second, to_first, replay: either)
+ *   30 lent output too short (run, translate, translate_to, to_second, to_first, search, replay: either)
  *   20 board not below n - f [step]                21 rule not in the table [step]
  *   22 rule does not leave the state [step]        23 type or source out of range [step]
  *   24 message not in transit [step]               25 a threshold is not met [step]

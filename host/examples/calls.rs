@@ -1,5 +1,5 @@
-use macaroosh::{draw, first_step, replay, run, run_into, to_first, to_second, translate, undraw};
-use macaroosh::{Form, Message, Refusal, Sender, Step, ECHO, MOST_WORDS};
+use macaroosh::{draw, first_step, replay, run, run_into, search, to_first, to_second, translate, undraw};
+use macaroosh::{Form, Message, Outcome, Refusal, Sender, Step, ECHO, MOST_WORDS};
 
 fn main() -> Result<(), Refusal> {
     // Schedule W of the outline: three correct boards and a faulty one, read beside the echo table.
@@ -38,6 +38,21 @@ fn main() -> Result<(), Refusal> {
     let refused = replay(&empty, &ECHO, log.replace("from 1", "from 0")).unwrap_err();
     assert_eq!(refused.refusal, Refusal { number: 24, place: 4 });
     assert_eq!(refused.before.map(|made| (made.bundle, made.run.steps)), Some((twice.to_vec(), 4)));
+
+    // The same start in counting form: with five steps more, the first that a search finds, board 0 accepts. From boards without an
+    // echo to send there are no three steps that do, of 540 that were tried.
+    let mut counting = empty;
+    counting[10] = 1;
+    let found = search(&counting, &ECHO, 5, 1_000)?;
+    let last = Message { kind: 0, from: Sender::Correct };
+    match found.outcome {
+        Outcome::Found(steps) => assert_eq!(steps[4], Step { board: 0, rule: 5, message: Some(last) }),
+        other => panic!("{other:?}"),
+    }
+    assert_eq!(found.tried, 76);
+    counting[..3].copy_from_slice(&[0, 0, 0]);
+    let none = search(&counting, &ECHO, 3, 1_000)?;
+    assert_eq!((none.outcome, none.tried), (Outcome::None, 540));
 
     // The echo table as a drawing, and back.
     let drawing = draw(&ECHO)?;

@@ -1,26 +1,28 @@
 //! The proved library beside the hand-written fast version, measured in turns in one run; docs/COST.md has the cases.
 //!
 //! - `ratios` prints a line for each case, question and form: both times of one call, and their ratio.
-//! - `ratios write FOLDER` writes each case's bundle there and prints a line for each measurement: file and question.
-//! - `ratios one library|rust run|translate|first|replay FILE COUNT` only asks the question so often, to be counted from outside.
+//! - `ratios write FOLDER` writes each case's bundle there and prints a line for each measurement: file, question, and of a search
+//!   how many are tried.
+//! - `ratios one library|rust run|translate|first|replay|search-D FILE COUNT` only asks the question so often, to be counted from
+//!   outside; D is a search's depth.
 //!
 //! A replay is that of the bundle's own log over the bundle without its steps; less a run of the bundle it is the log's reader.
 
 use judge::fast::Fast;
 use judge::logs::log_of;
 use judge::makers::bundles::without_steps;
-use judge::makers::cases::{cases, Case};
+use judge::makers::cases::{cases, searches, Case, SearchCase};
 use judge::model::{read, Model};
-use judge::{Bench, Library, Replays};
-use macaroosh::calls::{Answer, First};
-use macaroosh::{Form, ECHO, MOST_WORDS};
+use judge::{Bench, Library, Limits, Replays, Searches};
+use macaroosh::calls::{Answer, First, NONE};
+use macaroosh::{Form, ECHO, MOST_DEPTH, MOST_WORDS};
 use std::process::ExitCode;
 use std::time::{Duration, Instant};
 
 // Whoever answers every question.
-trait Side: Bench + Replays {}
+trait Side: Bench + Replays + Searches {}
 
-impl<S: Bench + Replays> Side for S {}
+impl<S: Bench + Replays + Searches> Side for S {}
 
 fn main() -> ExitCode {
     let words: Vec<String> = std::env::args().skip(1).collect();
@@ -59,20 +61,31 @@ fn ratios() -> Result<(), String> {
         let mut of_run = [0.0; 2];
         for question in questions(&case) {
             let both = times(&case.bundle, question)?;
-            tell(&case, question, both);
+            tell(case.name, case.form, question, both);
             match *question {
                 "run" => of_run = both,
-                "replay" => tell(&case, "reader", [both[0] - of_run[0], both[1] - of_run[1]]),
+                "replay" => tell(case.name, case.form, "reader", [both[0] - of_run[0], both[1] - of_run[1]]),
                 _ => {}
             }
         }
     }
+    for case in searches() {
+        let tried = tried(&case)?;
+        let both = times(&case.bundle, &question(&case))?;
+        tell(case.name, Form::Counting, &question(&case), both);
+        tell(case.name, Form::Counting, "try", both.map(|time| time / tried as f64));
+    }
     Ok(())
 }
 
-fn tell(case: &Case, question: &str, [library, rust]: [f64; 2]) {
-    let (name, form, ratio) = (case.name, case.form.name(), library / rust);
-    println!("{name:<12} {form:<9} {question:<9} {library:>12.1} {rust:>12.1} {ratio:>7.2}");
+fn tell(name: &str, form: Form, question: &str, [library, rust]: [f64; 2]) {
+    let (form, ratio) = (form.name(), library / rust);
+    println!("{name:<12} {form:<9} {question:<9} {library:>12.2} {rust:>12.2} {ratio:>7.2}");
+}
+
+// What is asked of a search.
+fn question(case: &SearchCase) -> String {
+    format!("search-{}", case.depth)
 }
 
 fn write(folder: &str) -> Result<(), String> {
@@ -82,6 +95,12 @@ fn write(folder: &str) -> Result<(), String> {
         std::fs::write(format!("{folder}/{name}"), &case.bundle)
             .map_err(|cause| format!("{folder}/{name}: {cause}"))?;
         questions(&case).iter().for_each(|question| println!("{name} {question}"));
+    }
+    for case in searches() {
+        let tried = tried(&case)?;
+        std::fs::write(format!("{folder}/{}", case.name), &case.bundle)
+            .map_err(|cause| format!("{folder}/{}: {cause}", case.name))?;
+        println!("{} {} {tried}", case.name, question(&case));
     }
     Ok(())
 }
@@ -117,6 +136,23 @@ fn agree(case: &Case) -> Result<(), String> {
     Ok(())
 }
 
+// How many a search tries that finds nothing; refuses one on which the model, the library and the fast version differ.
+fn tried(case: &SearchCase) -> Result<u64, String> {
+    let answers = |bench: &dyn Side| -> Result<Asked, String> {
+        let mut asked = Asked::new(&case.bundle)?;
+        asked.ask(bench, &case.bundle, &question(case), 1);
+        Ok(asked)
+    };
+    let told = answers(&Model)?;
+    if told.search != Some(Answer { refusal: 0, place: 0, count: NONE }) {
+        return Err(format!("{} is not as it should be", case.name));
+    }
+    if told != answers(&Library)? || told != answers(&Fast)? {
+        return Err(format!("the benches differ on {}", case.name));
+    }
+    Ok(told.tried)
+}
+
 // What is replayed, lent memory, and the last answer to each question.
 #[derive(PartialEq)]
 struct Asked {
@@ -125,10 +161,13 @@ struct Asked {
     words: Vec<u64>,
     out: Vec<u8>,
     made: Vec<u8>,
+    found: [u8; 4 * MOST_DEPTH as usize],
+    tried: u64,
     run: Option<Answer>,
     translate: Option<Answer>,
     first: Option<First>,
     replay: Option<Answer>,
+    search: Option<Answer>,
 }
 
 impl Asked {
@@ -140,20 +179,29 @@ impl Asked {
             words: vec![0; MOST_WORDS],
             out: vec![0; bundle.len()],
             made: vec![0; bundle.len()],
+            found: [0; 4 * MOST_DEPTH as usize],
+            tried: 0,
             run: None,
             translate: None,
             first: None,
             replay: None,
+            search: None,
         })
     }
 
     // The answers are kept, so that no call is left out.
     fn ask(&mut self, bench: &dyn Side, bundle: &[u8], question: &str, count: u32) {
+        let depth = question.strip_prefix("search-").and_then(|depth| depth.parse().ok()).unwrap_or(0);
+        let limits = Limits { depth, budget: u64::MAX };
         for _ in 0..count {
             match question {
                 "run" => self.run = Some(bench.run(bundle, &ECHO, &mut self.words)),
                 "translate" => self.translate = Some(bench.translate(bundle, &ECHO, &mut self.out)),
                 "first" => self.first = Some(bench.first_step(bundle, &ECHO)),
+                _ if question.starts_with("search-") => {
+                    let answer = bench.search(bundle, &ECHO, limits, &mut self.found, &mut self.tried);
+                    self.search = Some(answer);
+                }
                 _ => {
                     self.replay = Some(bench.replay(&self.empty, &ECHO, &self.log, &mut self.made, &mut self.words));
                 }

@@ -7,13 +7,18 @@ mod table;
 use judge::fast::Fast;
 use judge::makers::bundles::closed;
 use judge::model::{read, report, Bundle, Coefficients, Model, Outline};
-use judge::{Bench, Library, Moves, Replays};
+use judge::{Bench, Library, Limits, Moves, Replays, Searches};
 use macaroosh::calls::{Answer, First, Step};
 use macaroosh::{Form, Refusal, ECHO, MOST_BYTES};
 use reporter::reported;
-use table::{case, cases, moves, Moved};
+use table::{case, cases, moves, Moved, Search};
 
-const BENCHES: [(&str, &dyn Bench); 3] = [("model", &Model), ("library", &Library), ("fast", &Fast)];
+// Whoever answers about bundles.
+trait Side: Bench + Searches {}
+
+impl<S: Bench + Searches> Side for S {}
+
+const BENCHES: [(&str, &dyn Side); 3] = [("model", &Model), ("library", &Library), ("fast", &Fast)];
 
 fn answer((refusal, place, count): (u8, u32, u32)) -> Answer {
     Answer { refusal, place, count }
@@ -111,7 +116,12 @@ fn what_a_run_refuses_every_question_refuses() {
                     let translated = bench.translate_to(&bundle, standing, form, &mut out);
                     assert_eq!(translated, answer((refusal, place, 0)), "{about}, to {form}");
                 }
-                assert_eq!(out, untouched, "{about}");
+                // A search looks at the form before any step.
+                let counting = bundle.last() == Some(&Form::Counting.number());
+                let searched = if refusal < 20 || counting { (refusal, place, 0) } else { (35, 0, 0) };
+                let (limits, mut tried) = (Limits { depth: 0, budget: 9 }, 9);
+                assert_eq!(bench.search(&bundle, standing, limits, &mut out, &mut tried), answer(searched), "{about}");
+                assert_eq!((out, tried), (untouched, 0), "{about}");
             }
         }
     }
@@ -154,6 +164,35 @@ fn logs_are_replayed_as_the_table_says() {
                 assert_eq!(answer, log.answer, "{about}");
                 assert_eq!(out, [&makes[..], &vec![0xAA; 99 - makes.len()]].concat(), "{about}");
                 assert_eq!(lent, [&words[..], &vec![u64::MAX; 12 - words.len()]].concat(), "{about}");
+            }
+        }
+    }
+}
+
+#[test]
+fn searches_end_as_the_table_says() {
+    let all = cases();
+    let of_cases = all.iter().flat_map(|case| case.searches.iter().map(move |search| (case, search)));
+    assert!(of_cases.clone().count() > 40, "the lines are not read");
+    for (case, Search { limits, answer: expected, tried: count, writes }) in of_cases {
+        let limits = *limits;
+        let room = 4 * limits.depth.min(8) as usize;
+        for (who, bench) in BENCHES {
+            for (bundle, standing) in case.beside(&case.bundle) {
+                let about = format!("{who}: {}, {} bytes, {limits:?}", case.name, bundle.len());
+                for more in [0, 3] {
+                    let (mut out, mut tried) = (vec![0xAA; room + more], 9);
+                    let answer = bench.search(&bundle, standing, limits, &mut out, &mut tried);
+                    assert_eq!((answer, tried), (*expected, *count), "{about}");
+                    assert_eq!(out, [&writes[..], &vec![0xAA; room + more - writes.len()]].concat(), "{about}");
+                }
+                // One byte less is too little, where that is looked at.
+                if room > 0 && ![34, 35].contains(&expected.refusal) {
+                    let (mut few, mut tried) = (vec![9; room - 1], 9);
+                    let refused = bench.search(&bundle, standing, limits, &mut few, &mut tried);
+                    assert_eq!((refused, tried), (answer((30, 0, 0)), 0), "{about}");
+                    assert!(few.iter().all(|&byte| byte == 9), "{about}");
+                }
             }
         }
     }
@@ -292,10 +331,12 @@ fn every_quotient_is_rounded_up() {
 
 #[test]
 fn the_examples_are_cases_of_the_table() {
-    let examples: [(&str, &[u8]); 3] = [
+    let examples: [(&str, &[u8]); 5] = [
         ("W", include_bytes!("../../examples/w.bundle")),
         ("more than half, n + t even", include_bytes!("../../examples/majority.bundle")),
         ("half alone, n + t even", include_bytes!("../../examples/half.bundle")),
+        ("W in counting form without its steps", include_bytes!("../../examples/bubble.bundle")),
+        ("no echo to send, in counting form", include_bytes!("../../examples/no-bubble.bundle")),
     ];
     for (name, bytes) in examples {
         assert_eq!(case(name).bundle, bytes, "{name}");

@@ -1,8 +1,9 @@
 //! The calls that Rust declares are those of the C header: the same names, parameters in the same order, and the same types.
-//! The linker looks at names only. The header's maxima are those of Rust too, and its refusals those of the library.
+//! The linker looks at names only. The header's maxima and outcomes are those of Rust too, and its refusals those of the library.
 
+use macaroosh::calls::{NONE, SPENT};
 use macaroosh::terms::refusals;
-use macaroosh::{MOST_BYTES, MOST_DRAWING, MOST_TABLE, MOST_WORDS};
+use macaroosh::{MOST_BYTES, MOST_DEPTH, MOST_DRAWING, MOST_TABLE, MOST_WORDS};
 use std::collections::BTreeSet;
 
 const HEADER: &str = include_str!("../../crates/capi/macaroosh.h");
@@ -159,15 +160,18 @@ fn defined(header: &str, name: &str) -> Option<usize> {
 }
 
 #[test]
-fn the_maxima_are_those_of_rust() {
-    let maxima = [
+fn the_numbers_are_those_of_rust() {
+    let numbers = [
         ("MOST_WORDS", MOST_WORDS),
         ("MOST_BYTES", MOST_BYTES),
         ("MOST_TABLE", MOST_TABLE),
         ("MOST_DRAWING", MOST_DRAWING),
+        ("MOST_DEPTH", MOST_DEPTH as usize),
+        ("NONE", NONE as usize),
+        ("SPENT", SPENT as usize),
     ];
-    for (name, most) in maxima {
-        assert_eq!(defined(HEADER, name), Some(most), "{name}");
+    for (name, number) in numbers {
+        assert_eq!(defined(HEADER, name), Some(number), "{name}");
     }
 }
 

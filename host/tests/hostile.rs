@@ -780,6 +780,24 @@ fn how_far_a_shelf_is_moved_is_shown_at_a_terminal() {
     assert_eq!(shown[16], "14 moved to the second edition, 1 refused");
 }
 
+#[test]
+fn how_much_a_search_has_tried_is_shown_at_a_terminal() {
+    let path = room("tried").join("bundle");
+    // 43 boards hear 21 faulty ones of four types by rule 0 and wait for nothing else: no search of four steps comes to its end. The
+    // other rules leave another state, so that their tries take little time.
+    let rules = (0..64).flat_map(|rule| [vec![u8::from(rule > 0); 2], vec![0; 12]].concat());
+    let table = [&[1, 0, 0, 0][..], &rules.collect::<Vec<u8>>(), &[0x84, 3, 0x80, 3, 2, 64, 4, 3]].concat();
+    fs::write(&path, bundles::closed(&[table, vec![0; 43]].concat(), &[], 43, [64, 21, 21, 1])).expect("a bundle");
+    let seen = |budget: &str| seen_at_a_terminal(&words(&["search", "--depth=4", "--budget", budget], &[&path]));
+    assert_eq!(seen("100000000"), "");
+    let lines = seen("300000000");
+    let shown: Vec<&str> = lines.split('\r').map(str::trim_end).filter(|line| !line.is_empty()).collect();
+    let far = |tried: &str| format!("{tried} tried of 300,000,000, nothing found yet");
+    assert_eq!(shown, [far("100,000,000"), far("200,000,000")]);
+    // Elsewhere it is asked for at once.
+    assert_eq!(text(&asked(&words(&["search", "--depth=4", "--budget=100000001"], &[&path])).stderr), "");
+}
+
 // A bundle, a table, a drawing or a log with up to four places flipped, cut or filled in.
 fn damaged(seed: u64) -> Vec<u8> {
     let dice = &mut Dice::new(seed);
@@ -813,7 +831,7 @@ fn damaged(seed: u64) -> Vec<u8> {
 
 #[test]
 fn no_damaged_input_makes_any_command_stumble() {
-    const COMMANDS: [&[&str]; 16] = [
+    const COMMANDS: [&[&str]; 17] = [
         &["run"],
         &["run", "--plain"],
         &["trace"],
@@ -830,6 +848,7 @@ fn no_damaged_input_makes_any_command_stumble() {
         &["edition", "--to=first"],
         &["edition", "--to=second"],
         &["edition", "--to=second", "--plain"],
+        &["search", "--depth=2", "--budget=2000"],
     ];
     // As a bundle and as a log.
     const REPLAYS: [&[&str]; 4] =

@@ -54,8 +54,8 @@ fn agrees_on_seeds(bench: &(dyn Bench + Sync)) {
         }
         assert!(!kinds.contains_key(&format!("{form} form: no message, stays")), "a wait is given: {kinds:?}");
     }
-    // 32 and 33 are of editions, 40 is the report program's own, 60 and 61 are of drawings.
-    for line in refusals::ALL.iter().filter(|line| line.number < 40 && !matches!(line.number, 32 | 33)) {
+    // 32 and 33 are of editions, 34 and 35 of searches, 40 is the report program's own, 60 and 61 are of drawings.
+    for line in refusals::ALL.iter().filter(|line| line.number < 40 && !matches!(line.number, 32..=35)) {
         assert!(seen.contains_key(&line.number), "no bundle was refused with {}: {seen:?}", line.number);
     }
     assert!(seen.contains_key(&0), "no bundle was accepted: {seen:?}");

@@ -34,8 +34,8 @@ fn agrees_on_seeds(replayer: &(dyn Replays + Sync)) {
     for kind in kinds() {
         assert!(made.contains_key(kind), "no log is {kind}: {made:?}");
     }
-    // 31 is of translations, 32 and 33 are of editions, 40 is the report program's own, 60 and 61 are of drawings.
-    for line in refusals::ALL.iter().filter(|line| ![31, 32, 33, 40, 60, 61].contains(&line.number)) {
+    // 31 is of translations, 32 and 33 are of editions, 34 and 35 of searches, 40 is the report program's own, 60 and 61 are of drawings.
+    for line in refusals::ALL.iter().filter(|line| ![31, 32, 33, 34, 35, 40, 60, 61].contains(&line.number)) {
         assert!(seen.contains_key(&line.number), "no log was refused with {}: {seen:?}", line.number);
     }
     assert!(seen.contains_key(&0), "no log was accepted: {seen:?}");

@@ -541,7 +541,8 @@ fn wrong_words_are_told() {
     mistake(&["run"], "which bundle?");
     mistake(&["draw"], "which table?");
     mistake(&["undraw"], "which drawing?");
-    let all = "which command: run, trace, first, translate, draw, undraw, unpack, pack, replay, log or edition?";
+    let all =
+        "which command: run, trace, first, translate, draw, undraw, unpack, pack, replay, log, edition or search?";
     mistake(&["--plain"], all);
     mistake(&["run", "x", "y"], "one bundle at a time: 'y' is one word too many");
     mistake(&["draw", "x", "y"], "one table at a time: 'y' is one word too many");

@@ -739,7 +739,7 @@ fn wrong_words_are_told() {
         (&["run", empty, "--trace"], "--trace and --follow are for replay alone"),
         (&["trace", empty, "--follow"], "--trace and --follow are for replay alone"),
         (&["log", empty, log], "one bundle at a time: "),
-        (&["log", empty, "--json"], "--json is for run, trace, first and replay alone"),
+        (&["log", empty, "--json"], "--json is for run, trace, first, replay and search alone"),
         (&["log", "-", "--standing", "-"], "only one of bundle and standing table can come from standard input"),
         (&["replay", empty, "nothing.log", "--follow"], "cannot read 'nothing.log': No such file"),
     ];

@@ -807,8 +807,8 @@ fn json_by_example() {
 fn wrong_words_are_told() {
     let mistakes: [(&[&str], &str); 14] = [
         (&["run", "x", "--json", "--plain"], "--plain and --json are two ways to give one answer; choose one"),
-        (&["translate", "x", "--json"], "--json is for run, trace, first and replay alone"),
-        (&["draw", "x", "--json"], "--json is for run, trace, first and replay alone"),
+        (&["translate", "x", "--json"], "--json is for run, trace, first, replay and search alone"),
+        (&["draw", "x", "--json"], "--json is for run, trace, first, replay and search alone"),
         (&["run", "x", "--all"], "--all is for first alone"),
         (&["undraw", "x", "--of"], "--of is for draw alone"),
         (&["draw", "--of", "x", "--standing", "y"], "--of draws a bundle's own table"),

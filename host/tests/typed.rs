@@ -1,19 +1,20 @@
-//! The calls at the crate's root against the exact numbers of `macaroosh::calls`, on seeded bundles, logs, tables and texts:
+//! The calls at the crate's root against the exact numbers of `macaroosh::calls`, on seeded bundles, logs, searches, tables and texts:
 //! number, place, count, words and bytes; their configurations against the model's report; steps against their records. `SEEDS=n`
 //! tries more than 3,000.
 
 use judge::dice::{each_seed, seeds, Dice};
 use judge::makers::bundles::{any, case, without_steps};
 use judge::makers::logs::{self, Replay};
+use judge::makers::searches::{self, Search};
 use judge::makers::{shelf, sketches};
 use judge::model::{read, report};
-use macaroosh::calls::{self, Answer};
+use macaroosh::calls::{self, Answer, NONE, SPENT};
 use macaroosh::parts::Parts;
 use macaroosh::terms::refusals::{self, Place};
-use macaroosh::{draw, draw_into, first_step, replay, replay_into, run, run_into};
+use macaroosh::{draw, draw_into, first_step, replay, replay_into, run, run_into, search, search_into};
 use macaroosh::{to_first, to_first_into, to_second, to_second_into};
 use macaroosh::{translate, translate_into, undraw, undraw_into};
-use macaroosh::{Configuration, Form, Message, Refusal, Refused, Replayed, Run, Sender, Step};
+use macaroosh::{Configuration, Form, Message, Outcome, Refusal, Refused, Replayed, Run, Searched, Sender, Step};
 use macaroosh::{ECHO, MOST_BYTES, MOST_DRAWING, MOST_TABLE, MOST_WORDS};
 use std::collections::BTreeSet;
 use std::error::Error;
@@ -130,8 +131,8 @@ fn bundles_are_answered_as_by_the_raw_calls() {
     };
     let (refusals, firsts): (Vec<_>, Vec<_>) = each_seed(seeds("SEEDS", SEEDS), asked).into_iter().unzip();
     let refusals: BTreeSet<u8> = refusals.concat().into_iter().collect();
-    // 32 and 33 are of editions, 40 is the report program's own, 60 and 61 are of drawings.
-    for line in refusals::ALL.iter().filter(|line| line.number < 40 && !matches!(line.number, 32 | 33)) {
+    // 32 and 33 are of editions, 34 and 35 of searches, 40 is the report program's own, 60 and 61 are of drawings.
+    for line in refusals::ALL.iter().filter(|line| line.number < 40 && !matches!(line.number, 32..=35)) {
         assert!(refusals.contains(&line.number), "no bundle was refused with {}: {refusals:?}", line.number);
     }
     let firsts: BTreeSet<String> = firsts.into_iter().flatten().collect();
@@ -177,6 +178,50 @@ fn logs_are_answered_as_by_the_raw_call() {
     let refusals: BTreeSet<u8> = each_seed(seeds("SEEDS", SEEDS), asked).concat().into_iter().collect();
     let expected: BTreeSet<u8> = (0..=14).chain(20..=25).chain([30, 50, 51, 52]).collect();
     assert_eq!(refusals, expected);
+}
+
+// A search by each call, with each length of lent bytes: refusals and outcomes.
+fn searches_alike(asked: &Search, budget: u64) -> Vec<(u8, u32)> {
+    let Search { bundle, standing, depth, .. } = asked;
+    let exact = 4 * (*depth).min(9) as usize;
+    let alike = |length: usize| {
+        let (mut ours, mut tried) = ((0..length).map(byte).collect::<Vec<u8>>(), 9);
+        let mut theirs = ours.clone();
+        let answer = calls::search(bundle, standing, *depth, budget, &mut theirs, &mut tried);
+        let step =
+            |record: &[u8]| Step::of([record[0], record[1], record[2], record[3]], Form::Counting).expect("a step");
+        let (counted, found) = match answer.count {
+            NONE => (Outcome::None, Outcome::None),
+            SPENT => (Outcome::Spent, Outcome::Spent),
+            count => {
+                let steps = theirs.chunks(4).take(count as usize).map(step).collect();
+                (Outcome::Found(count as usize), Outcome::Found(steps))
+            }
+        };
+        let counted = said(answer).map(|_| Searched { outcome: counted, tried });
+        assert_eq!(search_into(bundle, standing, *depth, budget, &mut ours), counted, "{length} lent");
+        assert_eq!(ours, theirs, "{length} lent");
+        // With memory of its own there is always room.
+        if answer.refusal != 30 {
+            let found = said(answer).map(|_| Searched { outcome: found, tried });
+            assert_eq!(search(bundle, standing, *depth, budget), found);
+        }
+        (answer.refusal, answer.count)
+    };
+    [exact.saturating_sub(1), exact, exact + 3].map(alike).to_vec()
+}
+
+#[test]
+fn searches_are_answered_as_by_the_raw_call() {
+    let asked = |seed| {
+        let dice = &mut Dice::new(seed);
+        let search = searches::any(dice);
+        searches_alike(&search, dice.below(2_000) as u64)
+    };
+    let seen: BTreeSet<(u8, u32)> = each_seed(seeds("SEEDS", SEEDS), asked).concat().into_iter().collect();
+    let refusals = (1..=14).chain(20..=25).chain([30, 34, 35]).map(|number| (number, 0));
+    let outcomes = (0..=8).chain([NONE, SPENT]).map(|outcome| (0, outcome));
+    assert_eq!(seen, refusals.chain(outcomes).collect());
 }
 
 #[test]

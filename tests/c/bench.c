@@ -1,6 +1,7 @@
 /* The header from C: schedule W is run in each form, translated there and back and to each form, and asked for its first step,
  * as is a run that is quiet; the echo table is drawn and read back, and moved to the second edition and back; W's log is replayed;
- * a table with divisors is used and drawn; refusals leave lent memory alone. The last line is 'N passed, M failed'. */
+ * a table with divisors is used and drawn; schedules are searched for; refusals leave lent memory alone. The last line is 'N passed,
+ * M failed'. */
 #include "macaroosh.h"
 
 #include <stdio.h>
@@ -330,6 +331,50 @@ static void editions(void) {
           memcmp(back, echo, sizeof echo) == 0 && all(back + sizeof echo, sizeof back - sizeof echo, 0xAA));
 }
 
+/* Lent to searches: room for eight steps and a byte more, and the number tried. */
+static uint8_t steps[33];
+static uint64_t tried;
+
+/* A search after W's start in counting form, or another one of three boards, with fresh lent memory of so many bytes. */
+static uint64_t search(uint8_t start, uint64_t depth, uint64_t budget, size_t out_length) {
+    const uint8_t bundle[] = {start, start, start, 0x00, 0x00, 0x03, 0x00, 0x04, 0x01, 0x01, 0x01};
+    memset(steps, 0xAA, sizeof steps);
+    tried = 99;
+    return macaroosh_search(bundle, sizeof bundle, echo, sizeof echo, depth, budget, steps, out_length, &tried);
+}
+
+/* Whether so many were tried, and the steps are the only bytes that were written. */
+static int found(uint64_t count, const char *records, size_t length) {
+    return tried == count && memcmp(steps, records, length) == 0 && all(steps + length, sizeof steps - length, 0xAA);
+}
+
+static void searches(void) {
+    static const char four[] = "\x00\x03\xFF\xFF\x01\x03\x00\x00\x01\x04\x00\x00\x01\x05\x00\x01";
+    static const char five[] = "\x00\x03\xFF\xFF\x00\x04\x00\x00\x00\x04\x00\x01\x01\x03\xFF\xFF\x00\x05\x00\x00";
+    check("a schedule of four steps", answers(search(1, 4, UINT64_MAX, sizeof steps), 0, 0, 4));
+    check("with its steps alone", found(1505, four, sizeof four - 1));
+    check("one of five", answers(search(1, 5, 76, 20), 0, 0, 5));
+    check("with its steps", found(76, five, sizeof five - 1));
+    check("a budget of one less", answers(search(1, 5, 75, 20), 0, 0, MACAROOSH_SPENT));
+    check("writes no step", found(75, "", 0));
+    check("none from boards without an echo to send", answers(search(0, 3, 540, 12), 0, 0, MACAROOSH_NONE));
+    check("of all that were tried", found(540, "", 0));
+    check("a budget of nothing", answers(search(0, MACAROOSH_MOST_DEPTH, 0, sizeof steps), 0, 0, MACAROOSH_SPENT));
+    check("tries nothing", found(0, "", 0));
+    check("a depth of 9", answers(search(1, 9, 76, sizeof steps), 34, 0, 0));
+    check("sets the number tried to 0", found(0, "", 0));
+    check("a depth of all bits", answers(search(1, UINT64_MAX, 76, 0), 34, 0, 0));
+    check("19 bytes are too few for five steps", answers(search(1, 5, 76, 19), 30, 0, 0));
+    check("of which none changes", found(0, "", 0));
+    tried = 99;
+    check("message form", answers(macaroosh_search(w, sizeof w, echo, sizeof echo, 0, 0, NULL, 0, &tried), 35, 0, 0));
+    check("tries nothing either", tried == 0);
+    tried = 99;
+    check("a board accepts already",
+          answers(macaroosh_search(counting, sizeof counting, echo, sizeof echo, 0, 0, NULL, 0, &tried), 0, 0, 0));
+    check("without a try", tried == 0);
+}
+
 /* NULL where the length is 0: no bundle, no standing table, nothing lent. */
 static void nothing_lent(void) {
     uint64_t words[7] = {9, 9, 9, 9, 9, 9, 9};
@@ -348,6 +393,11 @@ static void nothing_lent(void) {
     check("nothing to move back", answers(macaroosh_to_first(NULL, 0, out, sizeof out), 1, 0, 0));
     check("nowhere to move", answers(macaroosh_to_second(echo, sizeof echo, NULL, 0), 30, 0, 0));
     check("nothing to replay over", answers(macaroosh_replay(NULL, 0, NULL, 0, NULL, 0, out, sizeof out, words, 7), 10, 0, 0));
+    tried = 99;
+    check("nothing to search after", answers(macaroosh_search(NULL, 0, NULL, 0, 9, 9, NULL, 0, &tried), 10, 0, 0) && tried == 0);
+    tried = 99;
+    check("nowhere for what is found",
+          answers(macaroosh_search(counting, sizeof counting, echo, sizeof echo, 1, 9, NULL, 0, &tried), 30, 0, 0) && tried == 0);
     check("nowhere to replay",
           answers(macaroosh_replay(without_steps, sizeof without_steps, echo, sizeof echo, NULL, 0, NULL, 0, NULL, 0), 30, 0, 0));
     check("nowhere for the table", answers(macaroosh_undraw((const uint8_t *)drawing, sizeof drawing - 1, NULL, 0), 61, 0, 0));
@@ -384,6 +434,7 @@ int main(void) {
     logs();
     divisors();
     editions();
+    searches();
     refusals();
     nothing_lent();
     printf("%d passed, %d failed\n", passed, failed);

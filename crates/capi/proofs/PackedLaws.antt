@@ -24,7 +24,10 @@ use Rattle.first_step.specs.Entry.{firstAnswer}
 use Rattle.first_step.proofs.BoundLaws.{FirstWithin, first-answer-within}
 use Rattle.replay.specs.Entry.{replayAnswer}
 use Rattle.replay.proofs.BoundLaws.{ReplayWithin, replay-within}
-use Rattle.capi.specs.Packed.{packed, capped, answerIn, Fits, packedFirst, firstIn, FirstFits, NothingLost}
+use Rattle.search.specs.declared.Searched.{Searched}
+use Rattle.search.specs.Entry.{searchAnswer}
+use Rattle.search.proofs.Bounds.{search-within}
+use Rattle.capi.specs.Packed.{packed, capped, outcomeAnswer, answerIn, Fits, packedFirst, firstIn, FirstFits, NothingLost}
 
 -- ---- read back
 answer-back : (a : Answer) → Fits a → answerIn (packed a) ≡ a
@@ -97,6 +100,9 @@ undraw-whole t lent l = let W = undraw-within t lent in rw (lt-ltb (undrawAnswer
 replay-fits : (b standing log : List ℕ) (bytes words : ℕ) → Fits (replayAnswer b standing log bytes words)
 replay-fits b standing log bytes words = let W = replay-within b standing log bytes words in record { refusal = omega (arith, W .refusal); place = omega (arith, W .place); count = omega (arith, W .count) }
 
+search-fits : (b standing : List ℕ) (depth budget lent : ℕ) → Fits (outcomeAnswer (searchAnswer b standing depth budget lent))
+search-fits b standing depth budget lent = let W = search-within b standing depth budget lent in record { refusal = omega (arith, W .refusal); place = omega (arith, W .place); count = omega (arith, W .outcome) }
+
 within-first : (f : First) → FirstWithin f → FirstFits f
 within-first (First.Refused k p) (a, b, c) = (a, omega arith, omega arith)
 within-first First.Nothing h = tt
@@ -106,7 +112,7 @@ first-fits : (b standing : List ℕ) → FirstFits (firstAnswer b standing)
 first-fits b standing = within-first (firstAnswer b standing) (first-answer-within b standing)
 
 pub nothing-lost : NothingLost
-nothing-lost = record { answer-back = answer-back; first-back = first-back; run-fits = run-fits; translate-fits = translate-fits; draw-fits = draw-fits; undraw-fits = undraw-fits; undraw-whole = undraw-whole; to-second-fits = to-second-fits; to-first-fits = to-first-fits; replay-fits = replay-fits; first-fits = first-fits }
+nothing-lost = record { answer-back = answer-back; first-back = first-back; run-fits = run-fits; translate-fits = translate-fits; draw-fits = draw-fits; undraw-fits = undraw-fits; undraw-whole = undraw-whole; to-second-fits = to-second-fits; to-first-fits = to-first-fits; replay-fits = replay-fits; search-fits = search-fits; first-fits = first-fits }
 
 -- ---- the code, from what it has in hand
 pub packed-by : {x : ℕ} {a a′ : Answer} → a ≡ a′ → x ≡ packed a → x ≡ packed a′
@@ -120,6 +126,15 @@ translate-fits-by b standing k lent e = subst⁻¹ Fits e (translate-fits b stan
 
 pub replay-fits-by : {a : Answer} (b standing log : List ℕ) (bytes words : ℕ) → a ≡ replayAnswer b standing log bytes words → Fits a
 replay-fits-by b standing log bytes words e = subst⁻¹ Fits e (replay-fits b standing log bytes words)
+
+pub search-fits-by : {a : Searched} {c : Answer} (b standing : List ℕ) (depth budget lent : ℕ) → a ≡ searchAnswer b standing depth budget lent → c ≡ outcomeAnswer a → Fits c
+search-fits-by b standing depth budget lent e f = subst⁻¹ Fits (f ∙ ap outcomeAnswer e) (search-fits b standing depth budget lent)
+
+pub packed-outcome : {x : ℕ} {a a′ : Searched} {c : Answer} → a ≡ a′ → c ≡ outcomeAnswer a → x ≡ packed c → x ≡ packed (outcomeAnswer a′)
+packed-outcome e f h = h ∙ ap packed (f ∙ ap outcomeAnswer e)
+
+pub tried-by : {a a′ : Searched} → a ≡ a′ → a .tried ≡ a′ .tried
+tried-by e = ap (λ (a : Searched). a .tried) e
 
 pub draw-fits-by : {a : Answer} (s : List ℕ) (lent : ℕ) → a ≡ drawAnswer s lent → Fits a
 draw-fits-by s lent e = subst⁻¹ Fits e (draw-fits s lent)

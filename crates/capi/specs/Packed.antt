@@ -15,6 +15,8 @@ use Rattle.editions.specs.Entry.{toSecondAnswer, toFirstAnswer}
 use Rattle.first_step.specs.declared.First.{First}
 use Rattle.first_step.specs.Entry.{firstAnswer}
 use Rattle.replay.specs.Entry.{replayAnswer}
+use Rattle.search.specs.declared.Searched.{Searched}
+use Rattle.search.specs.Entry.{searchAnswer}
 
 -- ---- an answer: the refusal in bits 0 to 7, the place in bits 8 to 31, the count in bits 32 to 63
 abbrev pub packed : Answer → ℕ
@@ -23,6 +25,10 @@ packed a = a .refusal + 2 ^ 8 * a .place + 2 ^ 32 * a .count
 -- an answer whose place has room: one that has not is given as the largest that has
 unfoldable pub capped : Answer → Answer
 capped a = record { refusal = a .refusal; place = a .place if a .place below 2 ^ 24 else 2 ^ 24 - 1; count = a .count }
+
+-- the answer of a search: the outcome is its count; the number tried has a place of its own
+abbrev pub outcomeAnswer : Searched → Answer
+outcomeAnswer a = record { refusal = a .refusal; place = a .place; count = a .outcome }
 
 -- the answer that stands in these bits
 abbrev pub answerIn : ℕ → Answer
@@ -67,4 +73,5 @@ pub record NothingLost : Type 0 where
   pub to-second-fits : (s : List ℕ) (lent : ℕ) → Fits (toSecondAnswer s lent)
   pub to-first-fits : (s : List ℕ) (lent : ℕ) → Fits (toFirstAnswer s lent)
   pub replay-fits : (b standing log : List ℕ) (bytes words : ℕ) → Fits (replayAnswer b standing log bytes words)
+  pub search-fits : (b standing : List ℕ) (depth budget lent : ℕ) → Fits (outcomeAnswer (searchAnswer b standing depth budget lent))
   pub first-fits : (b standing : List ℕ) → FirstFits (firstAnswer b standing)

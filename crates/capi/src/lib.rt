@@ -9,9 +9,11 @@ ghost use Rattle.drawing.specs.Entry.{drawAnswer, drawBytes, undrawAnswer, undr
 ghost use Rattle.editions.specs.Entry.{toSecondAnswer, toSecondBytes, toFirstAnswer, toFirstBytes};
 ghost use Rattle.first_step.specs.Entry.{firstAnswer};
 ghost use Rattle.replay.specs.Entry.{replayAnswer, replayBytes, replayWords};
-ghost use Rattle.capi.specs.Packed.{packed, capped, Fits, packedFirst, FirstFits};
+ghost use Rattle.search.specs.Entry.{searchAnswer, searchBytes};
+ghost use Rattle.capi.specs.Packed.{packed, capped, outcomeAnswer, Fits, packedFirst, FirstFits};
 use fault::Answer;
 use first_step::First;
+use search::Searched;
 
 // Runs a bundle's schedule in the lent words: refusal, place, steps accepted.
 #[no_mangle]
@@ -107,6 +109,37 @@ pub extern "C" fn macaroosh_replay<'a>(
     ensures { λ r. ⌜ now (words .exit) ≡ replayWords (now (bundle .entry)) (now (standing .entry)) (now (log .entry)) (length (now (out .entry))) (now (words .entry)) ⌝ }
 {
     pack(replay::replay(bundle, standing, log, out, words))
+}
+
+// Searches for a schedule of at most `depth` steps more that puts a board in an accepting state: refusal, place, outcome. The number tried
+// is stored with a refusal too, as 0.
+#[no_mangle]
+pub extern "C" fn macaroosh_search<'a>(
+    bundle: &'a [u8],
+    standing: &'a [u8],
+    depth: u64,
+    budget: u64,
+    out: &mut [u8],
+    tried: &mut u64,
+) -> u64
+    ensures { λ r. ⌜ r ≡ packed (outcomeAnswer (searchAnswer (now (bundle .entry)) (now (standing .entry)) depth budget (length (now (out .entry))))) ⌝ }
+    ensures { λ r. ⌜ now (out .exit) ≡ searchBytes (now (bundle .entry)) (now (standing .entry)) depth budget (now (out .entry)) ⌝ }
+    ensures { λ r. ⌜ now (tried .exit) ≡ searchAnswer (now (bundle .entry)) (now (standing .entry)) depth budget (length (now (out .entry))) .tried ⌝ }
+{
+    let a = search::search(bundle, standing, depth, budget, out);
+    *tried = a.tried;
+    pack(outcome_of(a))
+}
+
+// A search's answer with its outcome as the count.
+fn outcome_of(a: Searched) -> Answer
+    ensures { λ r. ⌜ r ≡ outcomeAnswer a ⌝ }
+{
+    Answer {
+        refusal: a.refusal as u64,
+        place: a.place as u64,
+        count: a.outcome as u64,
+    }
 }
 
 // A text may have places that take more than 24 bits.

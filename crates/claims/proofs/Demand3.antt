@@ -125,7 +125,7 @@ module _ (b standing : List ℕ) (S : Runs b standing) where
   R : Read t b
   R = read-by b standing refl (S .read) refl
 
-  abbrev d : Design
+  abbrev pub d : Design
   d = designIn b standing
 
   abbrev begin : ℕ → List ℕ
@@ -141,14 +141,14 @@ module _ (b standing : List ℕ) (S : Runs b standing) where
   abbrev new : ℕ → List Step
   new i = moved level i d begin ss
 
-  abbrev form : ℕ → List ℕ
+  abbrev pub form : ℕ → List ℕ
   form k = rewritten b (new (levelOf k)) k
 
   all : InAllForms d begin level ss
   unfolding ranWith
   all = all-forms d (kept t b R) begin (begins t b R) level ss (S .accepted)
 
-  own : translationOf b standing (formOf b) ≡ b
+  pub own : translationOf b standing (formOf b) ≡ b
   unfolding translationWith
   own = ap (λ (x : List Step). rewritten b x (formOf b)) (all .own) ∙ rewritten-own t b R
 
@@ -169,7 +169,7 @@ module _ (b standing : List ℕ) (S : Runs b standing) where
     recast-c : Recast b (new l) k c
     recast-c = recast t b R (new l) k many
 
-    same-design : designIn c standing ≡ d
+    pub same-design : designIn c standing ≡ d
     same-design = λ i. design (same-n t b R recast-c i) (same-t t b R recast-c i) (same-f t b R recast-c i) (same-table t b R recast-c standing i)
 
     abbrev form-c : formOf c ≡ k
@@ -233,7 +233,7 @@ module _ (b standing : List ℕ) (S : Runs b standing) where
         λ i. rewritten c (moved (level-c i) level (same-design i) (λ x. begins-c x i) (new-steps t b R recast-c i)) (formOf b) in
         p ∙ ap (λ (x : List Step). rewritten c x (formOf b)) (all .back l o) ∙ rewritten-again t b R (new l) k many ss (formOf b) refl ∙ rewritten-own t b R
 
-    translated : noOther b k ≡ false → Translated b standing k (translationOf b standing k)
+    pub translated : noOther b k ≡ false → Translated b standing k (translationOf b standing k)
     unfolding translationWith
     translated o = record {
       answered = answered-c o;
@@ -259,6 +259,9 @@ module _ (b standing : List ℕ) (S : Runs b standing) where
       ∙ (λ i. answerOf (first (level-c k i) (same-design k i) (ranOf (form k) standing .left)))
 
   -- of forms 0 to 2 the level is the form's own number
+  pub level-at : (k : ℕ) → k ≤ 2 → levelOf (formOf (form k)) ≡ k
+  level-at k h = level-c k ∙ level-same k h
+
   after-at : (k : ℕ) → k ≤ 2 → (n : ℕ) → afterIn (form k) standing n ≡ after k d (begin k) (new k) n
   after-at k h n = after-c k n ∙ ap (λ (i : ℕ). after i d (begin i) (new i) n) (level-same k h)
 
@@ -274,7 +277,7 @@ module _ (b standing : List ℕ) (S : Runs b standing) where
         subst⁻¹ (λ (w : List ℕ). Pictured j d w (afterIn (form (suc j)) standing n)) (after-at j (omega arith) n)
         (subst⁻¹ (Pictured j d (after j d (begin j) (new j) n)) (after-at (suc j) (omega arith) n) (all .pictured j n))
 
-    left-pictured : Pictured j d (ranOf (form j) standing .left) (ranOf (form (suc j)) standing .left)
+    pub left-pictured : Pictured j d (ranOf (form j) standing .left) (ranOf (form (suc j)) standing .left)
     left-pictured =
         subst⁻¹ (λ (w : List ℕ). Pictured j d w (ranOf (form (suc j)) standing .left)) (left-at j (omega arith))
         (subst⁻¹ (Pictured j d (after j d (begin j) (new j) (length ss))) (left-at (suc j) (omega arith)) (all .pictured j (length ss)))
@@ -299,9 +302,7 @@ module _ (b standing : List ℕ) (S : Runs b standing) where
   sizes k = numbers k (nOf b) (fOf b) t
 
   sizes-at : (k : ℕ) → k ≤ 2 → sizesIn (form k) standing ≡ sizes k
-  sizes-at k h =
-      let e : levelOf (formOf (form k)) ≡ k = level-c k ∙ level-same k h in
-      λ i. numbers (e i) (same-n t b R (recast-c k) i) (same-f t b R (recast-c k) i) (same-table t b R (recast-c k) standing i)
+  sizes-at k h = λ i. numbers (level-at k h i) (same-n t b R (recast-c k) i) (same-f t b R (recast-c k) i) (same-table t b R (recast-c k) standing i)
 
   abbrev Two : Type 0
   Two = columnOf 1 d .Coll

@@ -17,3 +17,6 @@ pub mod Maxima
 pub mod Replay
 pub mod MovedTables
 pub mod Editions
+pub mod SearchOrder
+pub mod SearchForms
+pub mod Search

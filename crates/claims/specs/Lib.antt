@@ -11,3 +11,4 @@ pub mod Drawings
 pub mod Maxima
 pub mod Replay
 pub mod Editions
+pub mod Search

@@ -10,6 +10,7 @@ use Rattle.translate.proofs.translate.Reads as translate
 use Rattle.translate.proofs.translate_to.Reads as translate-to
 use Rattle.first_step.proofs.first_step.Reads as first-step
 use Rattle.replay.proofs.replay.Reads as replay
+use Rattle.search.proofs.search.Reads as search
 use Rattle.drawing.proofs.draw.Reads as draw
 use Rattle.drawing.proofs.undraw.Reads as undraw
 use Rattle.editions.proofs.to_second.Reads as to-second
@@ -19,6 +20,7 @@ use Rattle.capi.proofs.macaroosh_translate.Reads as c-translate
 use Rattle.capi.proofs.macaroosh_translate_to.Reads as c-translate-to
 use Rattle.capi.proofs.macaroosh_first_step.Reads as c-first-step
 use Rattle.capi.proofs.macaroosh_replay.Reads as c-replay
+use Rattle.capi.proofs.macaroosh_search.Reads as c-search
 use Rattle.capi.proofs.macaroosh_draw.Reads as c-draw
 use Rattle.capi.proofs.macaroosh_undraw.Reads as c-undraw
 use Rattle.capi.proofs.macaroosh_to_second.Reads as c-to-second
@@ -40,6 +42,13 @@ Asked = RefT (List ℕ) × (RefT (List ℕ) × (ℕ × (RefT (List ℕ) × Unit 
 abbrev pub Logged : Type 0
 Logged = RefT (List ℕ) × (RefT (List ℕ) × (RefT (List ℕ) × (RefT (List ℕ) × (RefT (List ℕ) × Unit {0}))))
 
+-- a bundle and a standing table, a depth and a budget, and lent bytes; from C also where the number tried is stored
+abbrev pub Sought : Type 0
+Sought = RefT (List ℕ) × (RefT (List ℕ) × (ℕ × (ℕ × (RefT (List ℕ) × Unit {0}))))
+
+abbrev pub Counted : Type 0
+Counted = RefT (List ℕ) × (RefT (List ℕ) × (ℕ × (ℕ × (RefT (List ℕ) × (RefT ℕ × Unit {0})))))
+
 -- what was lent
 abbrev pub second : Two → List ℕ
 second s = now (s .1 .0)
@@ -55,6 +64,15 @@ bytesIn s = now (s .1 .1 .1 .0)
 
 abbrev pub wordsIn : Logged → List ℕ
 wordsIn s = now (s .1 .1 .1 .1 .0)
+
+abbrev pub fifth : Sought → List ℕ
+fifth s = now (s .1 .1 .1 .1 .0)
+
+abbrev pub stepsIn : Counted → List ℕ
+stepsIn s = now (s .1 .1 .1 .1 .0)
+
+abbrev pub triedIn : Counted → ℕ
+triedIn s = now (s .1 .1 .1 .1 .1 .0)
 
 -- a contract of input a, answer r and what is left, s
 abbrev pub One : {A R : Type 0} → (A → R → Two → Type 0) → Type 0
@@ -72,12 +90,19 @@ OneAsked {A} {R} Post = (a : A) (r r′ : R) (s s′ : Asked) → Post a r s →
 abbrev pub OneLogged : {A R : Type 0} → (A → R → Logged → Type 0) → Type 0
 OneLogged {A} {R} Post = (a : A) (r r′ : R) (s s′ : Logged) → Post a r s → Post a r′ s′ → (r ≡ r′) × (bytesIn s ≡ bytesIn s′) × (wordsIn s ≡ wordsIn s′)
 
+abbrev pub OneSought : {A R : Type 0} → (A → R → Sought → Type 0) → Type 0
+OneSought {A} {R} Post = (a : A) (r r′ : R) (s s′ : Sought) → Post a r s → Post a r′ s′ → (r ≡ r′) × (fifth s ≡ fifth s′)
+
+abbrev pub OneCounted : {A R : Type 0} → (A → R → Counted → Type 0) → Type 0
+OneCounted {A} {R} Post = (a : A) (r r′ : R) (s s′ : Counted) → Post a r s → Post a r′ s′ → (r ≡ r′) × (stepsIn s ≡ stepsIn s′) × (triedIn s ≡ triedIn s′)
+
 pub record OneAnswer : Type 0 where
   pub run : (κs : Lfts 2) → OneLent (run.Post κs)
   pub translate : (κs : Lfts 2) → OneLent (translate.Post κs)
   pub translate-to : (κs : Lfts 2) → OneAsked (translate-to.Post κs)
   pub first-step : (κs : Lfts 1) → One (first-step.Post κs)
   pub replay : (κs : Lfts 4) → OneLogged (replay.Post κs)
+  pub search : (κs : Lfts 2) → OneSought (search.Post κs)
   pub draw : (κs : Lfts 2) → OneLentTwo (draw.Post κs)
   pub undraw : (κs : Lfts 2) → OneLentTwo (undraw.Post κs)
   pub to-second : (κs : Lfts 2) → OneLentTwo (to-second.Post κs)
@@ -87,6 +112,7 @@ pub record OneAnswer : Type 0 where
   pub c-translate-to : (κs : Lfts 2) → OneAsked (c-translate-to.Post κs)
   pub c-first-step : (κs : Lfts 1) → One (c-first-step.Post κs)
   pub c-replay : (κs : Lfts 4) → OneLogged (c-replay.Post κs)
+  pub c-search : (κs : Lfts 3) → OneCounted (c-search.Post κs)
   pub c-draw : (κs : Lfts 2) → OneLentTwo (c-draw.Post κs)
   pub c-undraw : (κs : Lfts 2) → OneLentTwo (c-undraw.Post κs)
   pub c-to-second : (κs : Lfts 2) → OneLentTwo (c-to-second.Post κs)

@@ -21,7 +21,7 @@ use Rattle.schedule.proofs.RecordLaws.{length-steps, step-at}
 use Rattle.paper.proofs.RunLaws.{Running, ranTo, running-starts, running-goes, running-stops, running-ends}
 use Rattle.words.specs.declared.Sizes.{Sizes}
 use Rattle.words.specs.Words.{roomOf}
-use Rattle.words.specs.Facts.{inStep, Holds, Grown}
+use Rattle.words.specs.Facts.{atEnd, Holds, Grown}
 use Rattle.words.proofs.KeepLaws.{holds-more}
 use Rattle.rules.specs.Kept.{ByDesign}
 use Rattle.step.specs.Step.{leftBy}
@@ -106,13 +106,13 @@ pub record Ends (s : Sizes) (e l w₀ steps : List ℕ) (a : Answer) (w : List �
   pub answers : ByDesign s e l (λ d. a ≡ ranAnswer (run (s .level) d w₀ (stepsIn steps)))
   pub leaves : ByDesign s e l (λ d. w ≡ run (s .level) d w₀ (stepsIn steps) .left)
   pub long : length w ≡ length w₀
-  pub holds : Holds s inStep w
+  pub holds : Holds s atEnd w
 
 module _ (s : Sizes) (e l w₀ steps : List ℕ) (H : Holds s 256 w₀) (n : ℕ) (few : n ≤ 4096) (q : length steps ≡ n * 4) where
   pub so-far-none : SoFar s e l w₀ steps 0 w₀
   so-far-none = record { holds = holds-more s 256 (256 + 2 * 0) w₀ (omega arith) H; running = λ d K. running-starts (s .level) d w₀ (stepsIn steps) }
 
-  ends : (i x : ℕ) (w : List ℕ) → ByDesign s e l (λ d. run (s .level) d w₀ (stepsIn steps) ≡ ranTo i x w) → Holds s inStep w → Ends s e l w₀ steps (ranAnswer (ranTo i x w)) w
+  ends : (i x : ℕ) (w : List ℕ) → ByDesign s e l (λ d. run (s .level) d w₀ (stepsIn steps) ≡ ranTo i x w) → Holds s atEnd w → Ends s e l w₀ steps (ranAnswer (ranTo i x w)) w
   ends i x w r h = record { answers = λ d K. ap ranAnswer (sym (r d K)); leaves = λ d K. ap (λ (y : Ran). y .left) (sym (r d K)); long = h .fits ∙ sym (H .fits); holds = h }
 
   module _ (i : ℕ) (w u : List ℕ) (x : ℕ) (h : i < n) (F : SoFar s e l w₀ steps i w) {y : Step} (o : y ≡ recordAt steps i) (f : ByDesign s e l (λ d. x ≡ stepFault (s .level) d w y))
@@ -129,9 +129,9 @@ module _ (s : Sizes) (e l w₀ steps : List ℕ) (H : Holds s 256 w₀) (n : ℕ
     pub ends-refused : (x ≡ 0 → ⊥) → Ends s e l w₀ steps (record { refusal = x; place = i; count = i }) u
     unfolding ranAnswer _if_else_
     ends-refused b =
-        let E = ends i x u (λ d K. stopped (s .level) d w₀ steps n q i w u x h (F .running d K) (f d K ∙ ap (stepFault (s .level) d w) o) (g d K ∙ ap (leftBy (s .level) d w) o) b) (holds-more s (256 + 2 * i + 2) inStep u (omega arith) grown) in
+        let E = ends i x u (λ d K. stopped (s .level) d w₀ steps n q i w u x h (F .running d K) (f d K ∙ ap (stepFault (s .level) d w) o) (g d K ∙ ap (leftBy (s .level) d w) o) b) (holds-more s (256 + 2 * i + 2) atEnd u (omega arith) grown) in
         record { answers = rw (ne-eqb x 0 b) at (E .answers); leaves = E .leaves; long = E .long; holds = E .holds }
 
   pub ends-all : (i : ℕ) (w : List ℕ) → i ≤ n → n ≤ i → SoFar s e l w₀ steps i w → Ends s e l w₀ steps (record { refusal = 0; place = 0; count = n }) w
   unfolding ranAnswer _if_else_
-  ends-all i w a b F = ends n 0 w (λ d K. ended (s .level) d w₀ steps n q i w a b (F .running d K)) (holds-more s (256 + 2 * i) inStep w (omega arith) (F .holds))
+  ends-all i w a b F = ends n 0 w (λ d K. ended (s .level) d w₀ steps n q i w a b (F .running d K)) (holds-more s (256 + 2 * i) atEnd w (omega arith) (F .holds))

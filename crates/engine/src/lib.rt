@@ -8,7 +8,7 @@ ghost use Rattle.paper.specs.Form as forms;
 ghost use Rattle.schedule.specs.Records.{stepsIn, Records};
 ghost use Rattle.paper.specs.Run as runs;
 ghost use Rattle.words.specs.Words.{roomOf};
-ghost use Rattle.words.specs.Facts.{inStep, Bounded, Holds};
+ghost use Rattle.words.specs.Facts.{atEnd, Bounded, Holds};
 ghost use Rattle.rules.specs.Kept.{keptRoom, ByDesign};
 ghost use Rattle.engine.specs.Design.{sizesOf};
 ghost use Rattle.engine.specs.Entry.{scheduleOf, startIn, ranAnswer, runAnswer, runWords};
@@ -115,7 +115,7 @@ pub fn run_in(bundle: &[u8], s: Sizes, ends: &[u8], leasts: &[u16], w: &mut [u64
     requires { ⌜ (Parts s (now bundle)) × (Bounded s) × (length (now ends) ≡ keptRoom) × (length (now leasts) ≡ keptRoom) × (length (now w) ≡ roomOf s) ⌝ }
     ensures { λ r. ⌜ ByDesign s (now (ends .entry)) (now (leasts .entry)) (λ d. r ≡ ranAnswer (runs.run (s .level) d (startIn s (now (bundle .entry))) (scheduleOf (now (bundle .entry))))) ⌝ }
     ensures { λ r. ⌜ ByDesign s (now (ends .entry)) (now (leasts .entry)) (λ d. now (w .exit) ≡ runs.run (s .level) d (startIn s (now (bundle .entry))) (scheduleOf (now (bundle .entry))) .left) ⌝ }
-    ensures { λ r. ⌜ Holds s inStep (now (w .exit)) ⌝ }
+    ensures { λ r. ⌜ Holds s atEnd (now (w .exit)) ⌝ }
 {
     begin(bundle::starts(bundle), s, w);
     run_steps(s, ends, leasts, bundle::steps(bundle), w)
@@ -161,7 +161,7 @@ fn run_steps(s: Sizes, ends: &[u8], leasts: &[u16], steps: &[u8], w: &mut [u64])
     requires { ⌜ (Bounded s) × (length (now ends) ≡ keptRoom) × (length (now leasts) ≡ keptRoom) × (Holds s 256 (now w)) × (Records (now steps)) ⌝ }
     ensures { λ r. ⌜ ByDesign s (now (ends .entry)) (now (leasts .entry)) (λ d. r ≡ ranAnswer (runs.run (s .level) d (now (w .entry)) (stepsIn (now (steps .entry))))) ⌝ }
     ensures { λ r. ⌜ ByDesign s (now (ends .entry)) (now (leasts .entry)) (λ d. now (w .exit) ≡ runs.run (s .level) d (now (w .entry)) (stepsIn (now (steps .entry))) .left) ⌝ }
-    ensures { λ r. ⌜ Holds s inStep (now (w .exit)) ⌝ }
+    ensures { λ r. ⌜ Holds s atEnd (now (w .exit)) ⌝ }
 {
     let total = steps.len() / 4;
     let mut i = 0;

@@ -18,6 +18,7 @@ use Rattle.log.specs.Lines.{faultFrom}
 use Rattle.replay.specs.Entry.{replayAnswer, replayBytes, replayWords}
 use Rattle.drawing.specs.Entry.{drawAnswer, drawBytes, undrawAnswer, undrawBytes}
 use Rattle.editions.specs.Entry.{toSecondAnswer, toSecondBytes, toFirstAnswer, toFirstBytes}
+use Rattle.search.specs.Entry.{searchAnswer, searchBytes}
 
 pub data Case : Type 0 where
   -- a, b, d and e at n and t come to the threshold z
@@ -44,6 +45,9 @@ pub data Case : Type 0 where
   replays : List ℕ → List ℕ → List ℕ → ℕ → ℕ → ℕ → List ℕ → List ℕ → Case
   -- from line i on, with room for n more lines, a log is refused with this number and place
   judges : ℕ → ℕ → List ℕ → ℕ → ℕ → Case
+  -- a search from where a bundle's schedule ends, beside a standing table, so deep and with such a budget, answers refusal, place, outcome and number tried, and
+  -- leaves these bytes in as many lent ones
+  searches : List ℕ → List ℕ → ℕ → ℕ → ℕ → ℕ → ℕ → ℕ → List ℕ → Case
 
 abbrev pub Holds : Case → Type 0
 Holds (comesTo w n t z) = thresholdOf w n t ≡ z
@@ -67,6 +71,8 @@ Holds (toFirst s k p n bytes) =
 Holds (replays b standing log k p i bytes words) =
     (replayAnswer b standing log (length bytes) (length words) ≡ record { refusal = k; place = p; count = i }) × (replayBytes b standing log (replicate (length bytes) 9) (length words) ≡ bytes) × (replayWords b standing log (length bytes) (replicate (length words) 9) ≡ words)
 Holds (judges n i log k p) = faultFrom n i log ≡ verdict k p
+Holds (searches b standing depth budget k p o n bytes) =
+    (searchAnswer b standing depth budget (length bytes) ≡ record { refusal = k; place = p; outcome = o; tried = n }) × (searchBytes b standing depth budget (replicate (length bytes) 9) ≡ bytes)
 
 abbrev pub Every : List Case → Type 0
 Every [] = Unit {0}

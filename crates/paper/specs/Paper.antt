@@ -22,6 +22,8 @@ pub record Design : Type 0 where
   pub rules : ℕ
   -- the initial control states
   pub initial : ℕ → Bool
+  -- the accepting ones
+  pub accepting : ℕ → Bool
   -- is_sent: a state has sent a type
   pub hasSent : ℕ → ℕ → Bool
   -- the ends of a rule

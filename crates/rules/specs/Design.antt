@@ -9,7 +9,7 @@ use Rattle.threshold.specs.Threshold.{thresholdOf, metBy, leastOf}
 use Rattle.table.specs.Table as table
 use Rattle.fault.specs.Tests.{_below_}
 use Rattle.fault.specs.Fault.{_if_else_}
-use Rattle.table.specs.Table.{statesOf, initialOf, fromOf, toOf, weightsFor}
+use Rattle.table.specs.Table.{statesOf, initialOf, acceptingOf, fromOf, toOf, weightsFor}
 use Rattle.paper.specs.Paper.{Design}
 use Rattle.words.specs.declared.Sizes.{Sizes}
 
@@ -37,6 +37,7 @@ designOf s t tab = record {
   types = s .types;
   rules = s .rules;
   initial = λ i. i below statesOf tab && initialOf tab i;
+  accepting = λ i. i below statesOf tab && acceptingOf tab i;
   hasSent = λ i m. i below statesOf tab && mem (table.sentOf tab i) m;
   from = λ r. fromOf tab r if r below s .rules else 0;
   to = λ r. toOf tab r if r below s .rules else 0;

@@ -69,6 +69,7 @@ keptDesign s ends leasts = record {
   types = s .types;
   rules = s .rules;
   initial = λ i. false;
+  accepting = λ i. false;
   hasSent = λ i m. false;
   from = keptFrom ends;
   to = keptTo ends;

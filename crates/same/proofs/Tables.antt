@@ -132,6 +132,7 @@ module _ (s s′ : List ℕ) (E : SameTable s s′) where
         types = z .types;
         rules = z .rules;
         initial = λ x. and-same x (E .states) (initial-same x) i;
+        accepting = λ x. and-same x (E .states) (λ h. ap (λ (y : ℕ). mem y 1) (E .flags x h)) i;
         hasSent = λ x m. and-same x (E .states) (λ h. ap (λ (y : ℕ). mem y m) (E .sent x h)) i;
         from = λ r. if-same (z .rules) r (λ h. E .from r (rw er at h)) i;
         to = λ r. if-same (z .rules) r (λ h. E .to r (rw er at h)) i;

@@ -15,8 +15,11 @@ pub record Bounded (s : Sizes) : Type 0 where
   pub wide : s .wide ≡ wide (s .level)
   pub row : s .row ≡ s .types * s .wide
 
--- no word of a configuration that counts is over the first number between steps, nor over the second within one: far more than
--- 4,096 steps can count, and sums of a few such words fit
+-- no word of a configuration that counts is over the first number after a schedule
+abbrev pub atEnd : ℕ
+atEnd = 10000
+
+-- nor over the next between steps, nor over the last within one: far more than 4,096 steps can count, and sums of a few such words fit
 abbrev pub atRest : ℕ
 atRest = 900000
 

@@ -33,6 +33,22 @@ pub trait Replays {
     fn replay(&self, bundle: &[u8], standing: &[u8], log: &[u8], out: &mut [u8], words: &mut [u64]) -> Answer;
 }
 
+/// How far a search goes.
+#[derive(Clone, Copy, Debug)]
+pub struct Limits {
+    /// How many steps more there may be.
+    pub depth: u64,
+    /// How many are tried at most.
+    pub budget: u64,
+}
+
+/// Whoever searches a few steps deep: the library, the model, the fast version, or a broken variant of the model.
+pub trait Searches {
+    /// Writes the first schedule of no more steps than there may be that puts a board in an accepting state to the lent bytes, and
+    /// the number tried to the lent word; the count is the schedule's length, or `NONE`, or `SPENT`.
+    fn search(&self, bundle: &[u8], standing: &[u8], limits: Limits, out: &mut [u8], tried: &mut u64) -> Answer;
+}
+
 /// Whoever moves tables to the other edition: the library, the model, or a broken variant of it.
 pub trait Moves {
     /// Writes a table part in that edition to the lent bytes.

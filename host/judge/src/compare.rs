@@ -1,14 +1,15 @@
-//! Two benches on one bundle, table, drawing or log: every answer, and every lent word and byte.
+//! Two benches on one bundle, table, drawing, log or search: every answer, and every lent word and byte.
 
-use crate::bench::{Bench, Draws, Moves, Replays};
+use crate::bench::{Bench, Draws, Limits, Moves, Replays, Searches};
 use crate::dice::Dice;
 use crate::drawings::{Drawing, Text};
 use crate::editions::EditionOutline;
 use crate::logs::LogOutline;
 use crate::makers::logs::Replay;
+use crate::makers::searches::Search;
 use crate::model::{read, read_table, Edition, Model};
-use macaroosh::calls::{Answer, First};
-use macaroosh::Form;
+use macaroosh::calls::{Answer, First, SPENT};
+use macaroosh::{Form, MOST_DEPTH};
 use std::fmt::Debug;
 
 /// What two benches answered alike.
@@ -41,7 +42,8 @@ pub fn compare(
         let theirs = |lent: &mut [u8]| other.translate(bundle, standing, lent);
         refusals.push(same("translate", junk(length, dice), ours, theirs)?);
     }
-    for form in [0, 1, 2, no_form(dice)] {
+    // Those of the forms, and one of none.
+    for form in [0, 1, 2, dice.beyond(Form::ALL.len())] {
         for length in lengths(bundle.len(), dice) {
             let ours = |lent: &mut [u8]| one.translate_to(bundle, standing, form, lent);
             let theirs = |lent: &mut [u8]| other.translate_to(bundle, standing, form, lent);
@@ -133,18 +135,51 @@ pub fn compare_moves(
     Ok(refusals)
 }
 
-// A number to ask for as a form: none of the forms' own, often one that has a form's in its lowest bytes.
-fn no_form(dice: &mut Dice) -> u64 {
-    let low = dice.below(Form::ALL.len()) as u64;
-    match dice.below(8) {
-        0 => 3,
-        1 => 255,
-        2 => 256 + low,
-        3 => (1 << 16) + low,
-        4 => (1 << 32) + low,
-        5 => (1 << 63) + low,
-        6 => u64::MAX,
-        _ => dice.junk() | 4,
+/// The same for a search, with its refusals and outcomes: each length of the lent bytes beside each budget, of those around what a
+/// whole walk tries, where that is little.
+pub fn compare_search(
+    one: &dyn Searches,
+    other: &dyn Searches,
+    search: &Search,
+    dice: &mut Dice,
+) -> Result<Vec<(u8, u32)>, String> {
+    let Search { bundle, standing, depth, .. } = search;
+    let mut seen = Vec::new();
+    // A search that is too deep has room that would do for its lowest byte.
+    for length in lengths(4 * (*depth as u8 as usize), dice) {
+        for budget in budgets(search, dice) {
+            let (out, before) = (junk(length, dice), dice.junk());
+            let asked = |who: &dyn Searches| {
+                let (mut out, mut tried) = (out.clone(), before);
+                let answer = who.search(bundle, standing, Limits { depth: *depth, budget }, &mut out, &mut tried);
+                (answer, tried, out)
+            };
+            let (ours, theirs) = (asked(one), asked(other));
+            let name = format!("search of depth {depth} and budget {budget} with {length} lent");
+            if (ours.0, ours.1) != (theirs.0, theirs.1) {
+                return Err(format!("{name}: {:?} against {:?}", (ours.0, ours.1), (theirs.0, theirs.1)));
+            }
+            same_memory(&format!("{name}: at"), &ours.2, &theirs.2)?;
+            seen.push((ours.0.refusal, ours.0.count));
+        }
+    }
+    Ok(seen)
+}
+
+// The most that is tried in one search.
+const MOST_TRIED: u64 = 5_000;
+
+// Around what a whole walk tries, none and all; or where that is much, up to the most.
+fn budgets(search: &Search, dice: &mut Dice) -> Vec<u64> {
+    let mut tried = 0;
+    let room = &mut [0; 4 * MOST_DEPTH as usize];
+    let limits = Limits { depth: search.depth, budget: MOST_TRIED };
+    let answer = Model.search(&search.bundle, &search.standing, limits, room, &mut tried);
+    let below = dice.below(tried as usize + 1) as u64;
+    if answer.refusal == 0 && answer.count == SPENT {
+        vec![0, below, MOST_TRIED]
+    } else {
+        vec![0, below, tried.saturating_sub(1), tried, tried + 1, (1 << 32) + below, u64::MAX]
     }
 }
 

@@ -49,6 +49,21 @@ impl Dice {
         self.below(n) == 0
     }
 
+    /// A number that is not below `count`, often one that has such a number in its lowest bytes.
+    pub fn beyond(&mut self, count: usize) -> u64 {
+        let low = self.below(count) as u64;
+        match self.below(8) {
+            0 => count as u64,
+            1 => 255,
+            2 => 256 + low,
+            3 => (1 << 16) + low,
+            4 => (1 << 32) + low,
+            5 => (1 << 63) + low,
+            6 => u64::MAX,
+            _ => self.junk() | count.next_power_of_two() as u64,
+        }
+    }
+
     /// Any word, for lent memory.
     pub fn junk(&mut self) -> u64 {
         self.roll()

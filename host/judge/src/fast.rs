@@ -1,6 +1,7 @@
 //! The same questions by hand, for speed: rules decoded once with their thresholds, sets in words, nothing allocated.
 
 mod log;
+mod search;
 
 use crate::bench::Bench;
 use macaroosh::calls::{Answer, First, Step};

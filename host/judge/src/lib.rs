@@ -13,6 +13,7 @@ mod library;
 pub mod logs;
 pub mod makers;
 pub mod model;
+pub mod searches;
 
-pub use bench::{Bench, Draws, Moves, Replays};
+pub use bench::{Bench, Draws, Limits, Moves, Replays, Searches};
 pub use library::Library;

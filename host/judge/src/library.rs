@@ -1,6 +1,6 @@
 //! The proved library among the benches.
 
-use crate::bench::{Bench, Draws, Moves, Replays};
+use crate::bench::{Bench, Draws, Limits, Moves, Replays, Searches};
 use crate::model::Edition;
 use macaroosh::calls::{self, Answer, First};
 
@@ -38,6 +38,12 @@ impl Draws for Library {
 impl Replays for Library {
     fn replay(&self, bundle: &[u8], standing: &[u8], log: &[u8], out: &mut [u8], words: &mut [u64]) -> Answer {
         calls::replay(bundle, standing, log, out, words)
+    }
+}
+
+impl Searches for Library {
+    fn search(&self, bundle: &[u8], standing: &[u8], limits: Limits, out: &mut [u8], tried: &mut u64) -> Answer {
+        calls::search(bundle, standing, limits.depth, limits.budget, out, tried)
     }
 }
 

@@ -9,9 +9,15 @@ pub struct Answer {
     pub refusal: u8,
     /// Its place; 0 where none is named.
     pub place: u32,
-    /// Steps accepted, or bytes written.
+    /// Steps accepted, or bytes written, or what a search came to.
     pub count: u32,
 }
+
+/// What a search counts where there is no schedule as asked for.
+pub const NONE: u32 = 16;
+
+/// What a search counts where its budget was spent before.
+pub const SPENT: u32 = 17;
 
 impl Answer {
     /// The refusal, if it is one.

@@ -4,7 +4,7 @@
 use crate::library::ffi;
 use crate::terms::refusals::Refusal;
 
-pub use crate::library::answer::{Answer, First, Step};
+pub use crate::library::answer::{Answer, First, Step, NONE, SPENT};
 
 /// Runs a bundle beside a standing table; the configuration is left in the lent words, of which `MOST_WORDS` are enough.
 #[inline]
@@ -55,6 +55,15 @@ pub fn undraw(text: &[u8], out: &mut [u8]) -> Answer {
 #[inline]
 pub fn replay(bundle: &[u8], standing: &[u8], log: &[u8], out: &mut [u8], words: &mut [u64]) -> Answer {
     unpacked(ffi::replay(bundle, standing, log, out, words))
+}
+
+/// Searches for the first schedule of at most `depth` steps more, after the schedule of a bundle in counting form, that puts a board
+/// in an accepting state, and writes its steps' records; 4 bytes for each step of the depth are enough. The count of the answer is
+/// its length, or `NONE`, or `SPENT` where one more try was due after as many as the budget; `tried` is set to the number tried,
+/// which is 0 with any refusal.
+#[inline]
+pub fn search(bundle: &[u8], standing: &[u8], depth: u64, budget: u64, out: &mut [u8], tried: &mut u64) -> Answer {
+    unpacked(ffi::search(bundle, standing, depth, budget, out, tried))
 }
 
 /// Writes a first-edition table part in the second edition, with e = 1 for every rule and type; `MOST_TABLE` bytes are enough.

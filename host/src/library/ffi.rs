@@ -49,6 +49,17 @@ mod capi {
             words: *mut u64,
             words_length: usize,
         ) -> u64;
+        pub fn macaroosh_search(
+            bundle: *const u8,
+            bundle_length: usize,
+            standing: *const u8,
+            standing_length: usize,
+            depth: u64,
+            budget: u64,
+            out: *mut u8,
+            out_length: usize,
+            tried: *mut u64,
+        ) -> u64;
         pub fn macaroosh_to_second(table: *const u8, table_length: usize, out: *mut u8, out_length: usize) -> u64;
         pub fn macaroosh_to_first(table: *const u8, table_length: usize, out: *mut u8, out_length: usize) -> u64;
     }
@@ -140,6 +151,25 @@ pub fn replay(bundle: &[u8], standing: &[u8], log: &[u8], out: &mut [u8], words:
             out.len(),
             words.as_mut_ptr(),
             words.len(),
+        )
+    }
+}
+
+/// The packed answer of a search, and the number tried.
+#[inline]
+pub fn search(bundle: &[u8], standing: &[u8], depth: u64, budget: u64, out: &mut [u8], tried: &mut u64) -> u64 {
+    // SAFETY: as above; the word is one that is lent.
+    unsafe {
+        capi::macaroosh_search(
+            bundle.as_ptr(),
+            bundle.len(),
+            standing.as_ptr(),
+            standing.len(),
+            depth,
+            budget,
+            out.as_mut_ptr(),
+            out.len(),
+            tried,
         )
     }
 }

@@ -138,9 +138,10 @@ impl<'a> Parts<'a> {
         self.closed(&self.steps[..self.steps.len().min(4 * i)])
     }
 
-    /// The bytes of the bundle with one step more.
-    pub fn with(&self, step: Step) -> Vec<u8> {
-        self.closed(&[self.steps, &step.record()].concat())
+    /// The bytes of the bundle with these steps more, of which there is room for up to `MOST_STEPS` in all.
+    pub fn with(&self, steps: &[Step]) -> Vec<u8> {
+        let records = steps.iter().flat_map(|step| step.record());
+        self.closed(&self.steps.iter().copied().chain(records).collect::<Vec<u8>>())
     }
 
     // The bytes of the bundle with other steps.

@@ -20,7 +20,7 @@ pub fn possible(parts: &Parts, standing: &[u8]) -> Result<Vec<Step>, String> {
 // The possible steps of one board.
 fn of_board(parts: &Parts, standing: &[u8], board: u8) -> Vec<Step> {
     let mut words = [0; MOST_WORDS];
-    let mut refusal = |step: Step| run(&parts.with(step), standing, &mut words).refusal;
+    let mut refusal = |step: Step| run(&parts.with(&[step]), standing, &mut words).refusal;
     let silent = |rule: u8| Step { board, rule, kind: 255, source: 255 };
     let rules: Vec<u8> = (0..parts.rules() as u8).filter(|&rule| refusal(silent(rule)) != 22).collect();
     let mut messages = messages(parts);

@@ -2,6 +2,7 @@
 
 use crate::names::{quoted, shown};
 use crate::part::Part;
+use crate::search::{Limits, BUDGET};
 use crate::show::Style;
 use crate::words::Words;
 use macaroosh::terms::rules::Edition;
@@ -9,6 +10,7 @@ use macaroosh::Form;
 use std::collections::BTreeSet;
 use std::ffi::{OsStr, OsString};
 use std::path::PathBuf;
+use std::str::FromStr;
 
 /// What the words ask for.
 #[derive(Debug)]
@@ -72,6 +74,8 @@ pub enum Command {
     All,
     /// Each step, of those that are asked for.
     Trace(Part),
+    /// The first steps after the schedule that put a board in an accepting state.
+    Search(Limits),
     /// The drawing of a table, or an image of it.
     Draw(Option<Image>),
     /// The same of a bundle's own table.
@@ -117,6 +121,11 @@ impl Command {
         matches!(self, Command::Replay(_))
     }
 
+    /// Whether the file of `-o` is for a bundle, beside what is shown.
+    pub fn keeps_bundle(self) -> bool {
+        matches!(self, Command::Replay(_) | Command::Search(_))
+    }
+
     /// Whether its output is bytes that are no text.
     pub fn writes_bytes(self) -> bool {
         let image = matches!(self, Command::Draw(Some(Image::Png)) | Command::DrawOf(Some(Image::Png)));
@@ -156,9 +165,9 @@ impl Input {
     }
 }
 
-const COMMANDS: &str = "run, trace, first, translate, draw, undraw, unpack, pack, replay, log, edition";
+const COMMANDS: &str = "run, trace, first, translate, draw, undraw, unpack, pack, replay, log, edition, search";
 const OPTIONS: &str = "--standing, -o, --to, --svg, --png, --of, --all, --board, --from, --trace, --follow, --into, \
-                       --replace, --plain, --json, --partial, --help, --version";
+                       --replace, --depth, --budget, --plain, --json, --partial, --help, --version";
 
 /// The options that are for some commands alone.
 #[derive(Default)]
@@ -171,6 +180,8 @@ struct Special {
     of: bool,
     trace: bool,
     follow: bool,
+    depth: Option<u64>,
+    budget: Option<u64>,
 }
 
 /// Reads the words, or says what is wrong with them. Options may stand anywhere; after `--` there are none.
@@ -197,8 +208,12 @@ pub fn parse(words: impl Iterator<Item = OsString>) -> Result<Asked, String> {
             "--follow" => special.follow = true,
             "--replace" => replace = true,
             "--into" => once(&mut into, PathBuf::from(words.value("--into", "folder")?), "--into")?,
-            "--board" => once(&mut special.board, number(&words.value("--board", "number")?)?, "--board")?,
-            "--from" => once(&mut special.from, number(&words.value("--from", "step")?)?, "--from")?,
+            "--board" => once(&mut special.board, place(&words.value("--board", "number")?)?, "--board")?,
+            "--from" => once(&mut special.from, place(&words.value("--from", "step")?)?, "--from")?,
+            "--depth" => once(&mut special.depth, number(&words.value("--depth", "number")?, "of steps")?, "--depth")?,
+            "--budget" => {
+                once(&mut special.budget, number(&words.value("--budget", "number")?, "of tries")?, "--budget")?
+            }
             "--standing" => once(&mut standing, Input::of(words.value("--standing", "file")?), "--standing")?,
             "-o" => once(&mut output, words.value("-o", "file")?, "-o")?,
             "--to" => once(&mut special.to, words.value("--to", "form, edition or step")?, "--to")?,
@@ -213,7 +228,7 @@ pub fn parse(words: impl Iterator<Item = OsString>) -> Result<Asked, String> {
     let mut free = free.into_iter();
     let command = match free.next() {
         None => {
-            let all = "run, trace, first, translate, draw, undraw, unpack, pack, replay, log or edition";
+            let all = "run, trace, first, translate, draw, undraw, unpack, pack, replay, log, edition or search";
             return Err(format!("which command: {all}?"));
         }
         Some(word) if word == "help" => return Ok(Asked::Help),
@@ -244,8 +259,9 @@ pub fn parse(words: impl Iterator<Item = OsString>) -> Result<Asked, String> {
         return Err(format!("one {what}{log} at a time: '{}' is one word too many{several}", shown(&word)));
     }
     one_from_standard_input(&[(what, Some(&input)), ("log", log.as_ref()), ("standing table", standing.as_ref())])?;
-    if command.reads_log() && output.as_ref().map_or(false, |word| word == "-") {
-        return Err("what a replay shows goes to standard output, and -o keeps its bundle; name a file".to_string());
+    if command.keeps_bundle() && output.as_ref().map_or(false, |word| word == "-") {
+        let what = if command.reads_log() { "replay" } else { "search" };
+        return Err(format!("what a {what} shows goes to standard output, and -o keeps its bundle; name a file"));
     }
     let output = output.filter(|word| word != "-").map(PathBuf::from);
     Ok(Asked::Answer(Request { command, input, log, standing, output, partial, style }))
@@ -298,7 +314,7 @@ fn one_from_standard_input(inputs: &[(&str, Option<&Input>)]) -> Result<(), Stri
 }
 
 fn command(word: &OsStr, special: Special) -> Result<Command, String> {
-    let Special { to, image, board, from, all, of, trace, follow } = special;
+    let Special { to, image, board, from, all, of, trace, follow, depth, budget } = special;
     let asked_to = to.is_some();
     let command = match word.to_str() {
         Some("run") => Command::Run,
@@ -315,6 +331,7 @@ fn command(word: &OsStr, special: Special) -> Result<Command, String> {
         Some("replay") if trace => Command::Replay(Rows::All),
         Some("replay") => Command::Replay(Rows::None),
         Some("log") => Command::Log,
+        Some("search") => Command::Search(limits(depth, budget)?),
         Some("edition") => Command::Edition(edition(to.as_deref())?),
         _ => {
             let word = shown(word);
@@ -339,16 +356,25 @@ fn command(word: &OsStr, special: Special) -> Result<Command, String> {
     if (trace || follow) && !command.reads_log() {
         return Err("--trace and --follow are for replay alone".to_string());
     }
+    if (depth.is_some() || budget.is_some()) && !matches!(command, Command::Search(_)) {
+        return Err("--depth and --budget are for search alone".to_string());
+    }
     Ok(command)
 }
 
 // The steps that a trace is asked for.
 fn part(board: Option<usize>, from: Option<usize>, to: Option<OsString>) -> Result<Part, String> {
-    let to = to.map(|word| number(&word)).transpose()?;
+    let to = to.map(|word| place(&word)).transpose()?;
     match (from, to) {
         (Some(first), Some(last)) if first > last => Err(format!("--from {first} is after --to {last}")),
         _ => Ok(Part { board, from, to }),
     }
+}
+
+// How far a search goes.
+fn limits(depth: Option<u64>, budget: Option<u64>) -> Result<Limits, String> {
+    let depth = depth.ok_or("how many steps deep: --depth 0 to --depth 8?")?;
+    Ok(Limits { depth, budget: budget.unwrap_or(BUDGET) })
 }
 
 // Whom the answer is for; bytes and drawings have no JSON.
@@ -359,21 +385,24 @@ fn style(command: Command, plain: bool, json: bool) -> Result<Style, String> {
             Err("--json is one object, and --follow gives rows as they come; --plain has lines for programs"
                 .to_string())
         }
-        (_, true, Command::Run | Command::Trace(_) | Command::First | Command::All | Command::Replay(_)) => {
-            Ok(Style::Json)
-        }
-        (_, true, _) => Err("--json is for run, trace, first and replay alone".to_string()),
+        (_, true, Command::Run | Command::Trace(_) | Command::First | Command::All) => Ok(Style::Json),
+        (_, true, Command::Replay(_) | Command::Search(_)) => Ok(Style::Json),
+        (_, true, _) => Err("--json is for run, trace, first, replay and search alone".to_string()),
         (true, false, _) => Ok(Style::Plain),
         (false, false, _) => Ok(Style::People),
     }
 }
 
-// The number of a board or a step, in plain decimal.
-fn number(word: &OsStr) -> Result<usize, String> {
+// The number of a board or a step.
+fn place(word: &OsStr) -> Result<usize, String> {
+    number(word, "of a board or a step")
+}
+
+// A number of something, in plain decimal.
+fn number<N: FromStr>(word: &OsStr, of: &str) -> Result<N, String> {
     let digits = word.to_str().filter(|text| text.bytes().all(|byte| byte.is_ascii_digit()));
-    digits
-        .and_then(|text| text.parse().ok())
-        .ok_or_else(|| format!("'{}' is no number of a board or a step", word.to_string_lossy()))
+    let number = digits.and_then(|text| text.parse().ok());
+    number.ok_or_else(|| format!("'{}' is no number {of}", shown(word)))
 }
 
 // The form that a word names.

@@ -1,6 +1,7 @@
 //! Answers as JSON: one object on one line, with the numbers of `--plain`.
 
 use crate::replies::Question;
+use crate::search::{Ended, Limits};
 use crate::trace::Move;
 use macaroosh::calls::{Answer, Step};
 use macaroosh::parts::{Parts, Picture};
@@ -114,6 +115,29 @@ pub fn trace(question: &Question, answer: Answer, shown: Option<(&Parts, &[Move]
     line(fields)
 }
 
+/// A search: how it ended, in a word, and what was found. Where more steps than a bundle holds follow each other, nothing but their
+/// records is told.
+pub fn search(question: &Question, limits: Limits, ended: Option<&Ended>, refusal: Option<Refusal>) -> String {
+    let mut fields = head(question, refusal);
+    let outcome = ended.map(|ended| Json::Text(ended.outcome().to_string()));
+    fields.push(("outcome", outcome.unwrap_or(Json::Null)));
+    fields.push(("tried", number(ended.map_or(0, |ended| ended.tried))));
+    fields.push(("depth", number(limits.depth)));
+    fields.push(("budget", number(limits.budget)));
+    if let Some(ended) = ended {
+        fields.extend(setting(&ended.parts));
+        fields.push(("steps", ended.steps.as_ref().map_or(Json::Null, |steps| found(ended, steps))));
+    }
+    line(fields)
+}
+
+fn found(ended: &Ended, steps: &[Step]) -> Json {
+    match ended.moves() {
+        Some((parts, moves)) => list(&moves, |made| step(&parts, made)),
+        None => Json::List(ended.numbered(steps).map(|(i, step)| Json::Object(numbered(i, step))).collect()),
+    }
+}
+
 // Refusal and place; of a refusal its reason and the lines that explain it.
 fn head(question: &Question, refusal: Option<Refusal>) -> Fields {
     let Refusal { number: refused, place } = refusal.unwrap_or(Refusal { number: 0, place: 0 });
@@ -155,11 +179,14 @@ fn record(step: Step) -> Fields {
     vec![("board", board), ("rule", rule), ("type", kind), ("source", source)]
 }
 
+fn numbered(number: usize, step: Step) -> Fields {
+    [vec![("step", Json::Number(number as u64))], record(step)].into_iter().flatten().collect()
+}
+
 fn step(parts: &Parts, made: &Move) -> Json {
     let board = usize::from(made.step.board);
     let (from, to) = parts.ends(made.step.rule).unwrap_or((0, 0));
-    let mut fields = vec![("step", Json::Number(made.number as u64))];
-    fields.extend(record(made.step));
+    let mut fields = numbered(made.number, made.step);
     fields.push(("translated", number(made.other.source)));
     fields.push(("from", number(from)));
     fields.push(("sends", parts.sends(from, to).map_or(Json::Null, |kind| Json::Number(kind as u64))));

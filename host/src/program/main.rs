@@ -1,5 +1,5 @@
-//! The program at the bench: run, translate, first, trace; draw, undraw; unpack, pack; replay, log; edition. Exit status 0
-//! answered, 1 refused, 2 bad use.
+//! The program at the bench: run, translate, first, trace, search; draw, undraw; unpack, pack; replay, log; edition. Exit status
+//! 0 answered, 1 refused, 2 bad use.
 #![deny(unsafe_code)]
 
 mod all;
@@ -17,7 +17,9 @@ mod names;
 mod output;
 mod part;
 mod picture;
+mod progress;
 mod replies;
+mod search;
 mod shelf;
 mod show;
 mod system;
@@ -41,6 +43,8 @@ Macaroosh runs a schedule of steps against a threshold table.
                              counts after it
   macaroosh first FILE       name the first step that is possible after it, or
                              say that the run is quiet: nothing but waits
+  macaroosh search FILE      find the first steps after it that put a board in
+                             an accepting state, at most --depth D of them
   macaroosh translate FILE   write the bundle in the other form: counting, or
                              message if it is in counting form
   macaroosh draw TABLE       write the table as a drawing, in Graphviz's DOT
@@ -70,6 +74,9 @@ five '-' is standard input.
   --from I, --to J  trace steps I to J alone
   --board P         trace the steps of board P alone
   --all             list every possible step, the first one first
+  --depth D         how many steps a search finds at most, 0 to 8
+  --budget N        how many steps a search tries at most; without this option
+                    100,000,000, which takes some seconds
   --of              draw the table that a bundle has in front
   --trace           with replay: show each line as trace shows a step
   --follow          the same, each as soon as its line has come in; ends at
@@ -78,13 +85,14 @@ five '-' is standard input.
   --svg, --png      draw an image of the table; needs Graphviz's program dot
   -o FILE           write the output there; a file of that name stays as it
                     was until the new one is whole. With replay: keep the
-                    bundle there, also where a step is refused
+                    bundle there, also where a step is refused; with search:
+                    the bundle with the steps that were found
   --partial         with run or trace: write there too what a schedule left
                     that is refused at a step; without it a refused input
                     leaves the file as it was
   --plain           the same answer in numbers, for programs
-  --json            the same answer of run, trace, first or replay as a JSON
-                    object
+  --json            the same answer of run, trace, first, replay or search
+                    as a JSON object
   --help            this page
   --version         the version
 
@@ -96,6 +104,7 @@ or is in the way of --into.
 Try: macaroosh trace examples/w.bundle
      macaroosh draw examples/echo.table
      macaroosh replay examples/w-empty.bundle examples/w.log --trace
+     macaroosh search examples/bubble.bundle --depth 5
 ";
 
 const VERSION: &str = concat!("macaroosh ", env!("CARGO_PKG_VERSION"), "\n");
@@ -131,8 +140,8 @@ fn answer(request: &Request) -> Result<u8, String> {
 // A refused input leaves an existing file as it was: what it has to show is for standard output, unless that is asked for.
 fn write(request: &Request, reply: &Reply) -> Result<(), String> {
     let path = request.output.as_deref();
-    // What a replay shows is for standard output in any case.
-    if request.command.reads_log() {
+    // What a replay or a search shows is for standard output in any case.
+    if request.command.keeps_bundle() {
         reply.kept.as_ref().map_or(Ok(()), |bundle| files::write(path, bundle))?;
         return files::write(None, &reply.output);
     }
@@ -157,6 +166,7 @@ fn reply(request: &Request) -> Result<Reply, String> {
         Command::First => ask(&|question| Ok(replies::first(question))),
         Command::All => ask(&replies::all),
         Command::Trace(part) => ask(&|question| Ok(trace::reply(question, part))),
+        Command::Search(limits) => ask(&|question| search::reply(question, limits, path)),
         Command::Draw(image) => draw::draw(&files::table(&request.input)?, image, path, plain),
         Command::DrawOf(image) => draw::draw_of(&bundle(&request.input)?, image, path, plain),
         Command::Undraw => {

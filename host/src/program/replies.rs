@@ -1,7 +1,7 @@
-//! What each command has to say about a bundle; `trace` has a file of its own, and logs have a folder.
+//! What each command has to say about a bundle; `trace` and `search` have files of their own, and logs have a folder.
 
 use crate::show::{self, Style};
-use crate::{all, json, log, why};
+use crate::{all, json, log, text, why};
 use macaroosh::calls::Answer;
 use macaroosh::parts::Parts;
 use macaroosh::terms::refusals;
@@ -64,6 +64,18 @@ impl Question<'_> {
 /// A refusal in words, and the lines that explain it.
 pub fn told(refusal: Refusal, lines: Vec<String>) -> String {
     [vec![refusals::told(refusal)], lines].concat().join("\n") + "\n"
+}
+
+/// The same reply with a bundle to keep, if there is one and a path for it, which people are told.
+pub fn kept(reply: Reply, question: &Question, bundle: Option<&[u8]>, path: Option<&Path>) -> Reply {
+    let kept = bundle.filter(|_| path.is_some());
+    let wrote = kept.filter(|_| question.style == Style::People).and_then(|bundle| {
+        let parts = Parts::of(bundle, question.standing)?;
+        Some(text::wrote(bundle, "a bundle", parts.form, parts.length(), path))
+    });
+    let told: Vec<String> = [reply.told, wrote].into_iter().flatten().collect();
+    let told = (!told.is_empty()).then(|| told.concat());
+    Reply { told, kept: kept.map(<[u8]>::to_vec), ..reply }
 }
 
 /// The configuration that the schedule leaves.

@@ -2,8 +2,9 @@
 
 use crate::args::{Input, Shelf};
 use crate::names::{quoted, shown};
+use crate::progress::Progress;
 use crate::show::Style;
-use crate::{edition, files, system, tell};
+use crate::{edition, files};
 use macaroosh::calls::Answer;
 use std::ffi::OsStr;
 use std::fs;
@@ -30,9 +31,10 @@ pub fn moved(shelf: &Shelf) -> Result<u8, String> {
     // Those that are moved, refused and left out.
     let mut counts = [0; 3];
     let mut lines = String::new();
-    let progress = Progress::of(shelf.tables.len());
+    let all = shelf.tables.len();
+    let mut progress = Progress::of(all > FEW);
     for (done, (name, input)) in shelf.tables.iter().enumerate() {
-        progress.show(done);
+        progress.show(&format!("{done} of {all} tables"));
         let fate = became(shelf, name, input);
         counts[fate.status()] += 1;
         match fate {
@@ -100,30 +102,5 @@ fn counted(shelf: &Shelf, [moved, refused, left]: [usize; 3]) -> String {
     format!("{moved} moved to the {} edition, {refused} refused{left}\n", shelf.to.name())
 }
 
-/// A line at a terminal that says how far it is, of how many tables; none where they are few.
-struct Progress(Option<usize>);
-
+// Of so many tables no line says how far it is.
 const FEW: usize = 10;
-
-impl Progress {
-    fn of(tables: usize) -> Progress {
-        Progress(Some(tables).filter(|&tables| tables > FEW && system::is_terminal(2)))
-    }
-
-    // Over the line before, which is not longer.
-    fn show(&self, done: usize) {
-        if let Some(all) = self.0 {
-            tell(&format!("\r{}", far(done, all)));
-        }
-    }
-
-    // A text in place of the line.
-    fn tell(&self, text: &str) {
-        let cleared = self.0.map_or(String::new(), |all| format!("\r{}\r", " ".repeat(far(all, all).len())));
-        tell(&(cleared + text));
-    }
-}
-
-fn far(done: usize, all: usize) -> String {
-    format!("{done} of {all} tables")
-}

@@ -78,14 +78,19 @@ pub fn all(parts: &Parts, steps: &[Step]) -> String {
     if steps.is_empty() {
         return first(parts, None);
     }
+    let (after, possible) = (counted(parts.length(), "step"), counted(steps.len(), "possible step"));
+    format!("{}\nafter {after}: {possible}, waits aside\n\n{}", setting(parts), rows(parts, steps))
+}
+
+/// A row for each step by its record alone.
+pub fn rows(parts: &Parts, steps: &[Step]) -> String {
     let mut rows = vec![["board", "rule", "from -> to", "receives", "as bytes"].map(str::to_string).to_vec()];
     for &step in steps {
         let (from, to) = parts.ends(step.rule).unwrap_or((0, 0));
         let ends = format!("{from:>4} -> {}", state(parts, u64::from(to)));
         rows.push(vec![step.board.to_string(), step.rule.to_string(), ends, heard(parts, step), bytes(step)]);
     }
-    let (after, possible) = (counted(parts.length(), "step"), counted(steps.len(), "possible step"));
-    format!("{}\nafter {after}: {possible}, waits aside\n\n{}", setting(parts), aligned(&rows, &[2, 3, 4]))
+    aligned(&rows, &[2, 3, 4])
 }
 
 // The message of a step as its form has it.
@@ -189,6 +194,14 @@ pub fn to(path: Option<&Path>) -> String {
 /// A number of things: `1 step`, `5 steps`.
 pub fn counted(number: usize, thing: &str) -> String {
     format!("{number} {thing}{}", if number == 1 { "" } else { "s" })
+}
+
+/// A large number as people read it: `100,000,000`.
+pub fn grouped(number: u64) -> String {
+    let digits = number.to_string();
+    let groups: Vec<&str> =
+        digits.as_bytes().rchunks(3).rev().map(|group| std::str::from_utf8(group).unwrap_or("")).collect();
+    groups.join(",")
 }
 
 /// Numbers in a row: `2`, `2 and 3`, `2, 3 and 5`.

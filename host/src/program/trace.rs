@@ -40,7 +40,8 @@ pub struct Move {
     pub after: Picture,
 }
 
-fn moves(parts: &Parts, standing: &[u8], accepted: usize, part: Part) -> Vec<Move> {
+/// The accepted steps of a bundle, as far as they are asked for.
+pub fn moves(parts: &Parts, standing: &[u8], accepted: usize, part: Part) -> Vec<Move> {
     let others = translated(parts, standing, accepted);
     let mut words = [0; MOST_WORDS];
     let mut after = |steps: usize| {
@@ -78,9 +79,14 @@ fn table(parts: &Parts, moves: &[Move], part: Part) -> String {
     if moves.is_empty() {
         return text;
     }
+    text + &rows(parts, moves)
+}
+
+/// A row for each step, and what they show.
+pub fn rows(parts: &Parts, moves: &[Move]) -> String {
     let rows = moves.iter().map(|m| row(parts, m));
     let rows: Vec<Vec<String>> = std::iter::once(head(parts)).chain(rows).collect();
-    text + &legend(parts) + &show::aligned(&rows, &left(parts))
+    legend(parts) + &show::aligned(&rows, &left(parts))
 }
 
 /// What is so before any step.
@@ -153,7 +159,12 @@ pub fn start_line(parts: &Parts) -> String {
 /// For programs: a step's number, record and translated source, and the report's lines of its board and of what was sent.
 pub fn lines_of(made: &Move) -> String {
     let Move { number, step, other, after } = made;
-    let [board, rule, kind, source] = step.record();
-    let step = format!("step {number} {board} {rule} {kind} {source} {}\n", other.source);
-    step + &show::board_line(after, usize::from(board)) + &show::sent_line(after)
+    let step_line = format!("{} {}\n", step_line(*number, *step), other.source);
+    step_line + &show::board_line(after, usize::from(step.board)) + &show::sent_line(after)
+}
+
+/// The beginning of such a line: number and record.
+pub fn step_line(number: usize, step: Step) -> String {
+    let Step { board, rule, kind, source } = step;
+    format!("step {number} {board} {rule} {kind} {source}")
 }

@@ -19,6 +19,10 @@ pub fn of_bundle(bundle: &[u8], standing: &[u8], refusal: Refusal) -> Vec<String
         1..=9 => of_table_in_use(bundle, standing, refusal),
         11..=14 => of_schedule(bundle, standing, refusal),
         20..=25 => of_step(bundle, standing, refusal),
+        35 => {
+            let form = Form::of_bundle(bundle).map_or("another", Form::name);
+            vec![format!("it is in {form} form; translate --to counting writes it in counting form")]
+        }
         _ => Vec::new(),
     }
 }

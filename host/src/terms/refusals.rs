@@ -1,4 +1,4 @@
-//! The outline's table of refusals in words, with those of drawings, logs and editions.
+//! The outline's table of refusals in words, with those of drawings, logs, editions and searches.
 
 use std::error::Error;
 use std::fmt::{self, Display, Formatter};
@@ -86,7 +86,7 @@ const fn line(number: u8, place: Place, when: &'static str) -> Line {
 }
 
 /// Every refusal, in the order of the checks.
-pub const ALL: [Line; 30] = [
+pub const ALL: [Line; 32] = [
     line(40, Place::None, "the input is over 17,648 bytes (report program only)"),
     line(10, Place::None, "the bundle is under 8 bytes"),
     line(11, Place::None, "the schedule's second distance plus 8 exceeds the bundle"),
@@ -119,6 +119,8 @@ pub const ALL: [Line; 30] = [
     line(52, Place::None, "the bundle has steps, or is not in message form"),
     line(51, Place::Line, "the log has more lines than a schedule has steps, 4,096"),
     line(50, Place::Line, "the line has another shape, or a number over 254"),
+    line(34, Place::None, "the search is asked to go over 8 steps deep"),
+    line(35, Place::None, "the bundle is not in counting form"),
     line(32, Place::Rule, "the rule has a divisor other than 1, which the first edition cannot say"),
     line(33, Place::None, "the table is in that edition already"),
     line(30, Place::None, "the lent output is shorter than what is needed"),

@@ -9,6 +9,9 @@ pub const MOST_TABLE: usize = 16 * 2 + 64 * 18 + 8;
 /// The most steps that a schedule has.
 pub const MOST_STEPS: usize = 4_096;
 
+/// The most steps that a search goes deep.
+pub const MOST_DEPTH: u64 = 8;
+
 /// The most bytes that a bundle has: a table, 64 starts, 4,096 steps, a trailer.
 pub const MOST_BYTES: usize = MOST_TABLE + 64 + MOST_STEPS * 4 + 8;
 

@@ -7,6 +7,7 @@ mod draw;
 mod editions;
 mod replay;
 mod run;
+mod search;
 mod step;
 mod translate;
 
@@ -15,6 +16,7 @@ pub use draw::{draw, draw_into, undraw, undraw_into};
 pub use editions::{to_first, to_first_into, to_second, to_second_into};
 pub use replay::{replay, replay_into, Replayed};
 pub use run::{run, run_into, Refused, Run};
+pub use search::{search, search_into, Outcome, Searched};
 pub use step::{first_step, Message, Sender, Step};
 pub use translate::{translate, translate_into};
 

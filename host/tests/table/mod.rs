@@ -1,5 +1,6 @@
 //! The table of figures, tests/figures.txt of the repository, whose head says how it is written. What is no line of it panics.
 
+use judge::Limits;
 use macaroosh::calls::{Answer, First, Step};
 use macaroosh::terms::rules::Edition;
 use macaroosh::ECHO;
@@ -28,6 +29,8 @@ pub struct Case {
     pub first: Option<First>,
     /// Logs that are replayed over it.
     pub logs: Vec<Log>,
+    /// Searches after it.
+    pub searches: Vec<Search>,
 }
 
 /// A log that is replayed over a case.
@@ -37,6 +40,16 @@ pub struct Log {
     pub answer: Answer,
     /// The bundle that is written; empty where nothing is.
     pub makes: Vec<u8>,
+}
+
+/// A search after a case.
+#[derive(Clone, Debug)]
+pub struct Search {
+    pub limits: Limits,
+    pub answer: Answer,
+    pub tried: u64,
+    /// The steps that are written; empty where none are.
+    pub writes: Vec<u8>,
 }
 
 impl Case {
@@ -110,7 +123,7 @@ fn named() -> BTreeMap<&'static str, Vec<u8>> {
 fn moved(said: &str, named: &BTreeMap<&str, Vec<u8>>) -> Moved {
     let (before, writes) = said.split_once(" -> ").unwrap_or((said, ""));
     let (to, rest) = before.split_once(' ').unwrap_or((before, ""));
-    let (numbers, table) = first_numbers(rest);
+    let (numbers, table) = first_words(rest, 3);
     let to = Edition::named(to).unwrap_or_else(|| panic!("no edition: {said}"));
     Moved { to, table: bytes(table, named), answer: answer(&numbers), writes: bytes(writes, named) }
 }
@@ -137,6 +150,7 @@ fn said(case: &mut Case, line: &str, named: &BTreeMap<&str, Vec<u8>>) {
             let (form, text) = rest.split_once(' ').unwrap_or_else(|| panic!("a form and bytes: {line}"));
             case.to.push((number(form), bytes(text, named)));
         }
+        "search" => case.searches.push(search(rest, named)),
         "log" => case.logs.push(log(rest)),
         "makes" => match case.logs.last_mut() {
             Some(log) => log.makes = bytes(rest, named),
@@ -148,17 +162,27 @@ fn said(case: &mut Case, line: &str, named: &BTreeMap<&str, Vec<u8>>) {
     }
 }
 
+// Depth and budget, the answer's three numbers, how many are tried, and the steps.
+fn search(said: &str, named: &BTreeMap<&str, Vec<u8>>) -> Search {
+    let (limits, rest) = first_words(said, 2);
+    let (numbers, rest) = first_words(rest, 3);
+    let (tried, steps) = first_words(rest, 1);
+    let [depth, budget] = self::numbers(&limits.replace("all", &u64::MAX.to_string()));
+    let limits = Limits { depth, budget };
+    Search { limits, answer: answer(&numbers), tried: number(&tried), writes: bytes(steps, named) }
+}
+
 // The answer's three numbers, and then the text.
 fn log(said: &str) -> Log {
-    let (numbers, text) = first_numbers(said);
+    let (numbers, text) = first_words(said, 3);
     let text = text.replace(';', "\n").replace('!', "\r");
     Log { text, answer: answer(&numbers), makes: Vec::new() }
 }
 
-// The first three words, and the rest.
-fn first_numbers(said: &str) -> (String, &str) {
-    let words: Vec<&str> = said.splitn(4, ' ').collect();
-    (words[..words.len().min(3)].join(" "), words.get(3).copied().unwrap_or(""))
+// The first words, so many of them, and the rest.
+fn first_words(said: &str, count: usize) -> (String, &str) {
+    let words: Vec<&str> = said.splitn(count + 1, ' ').collect();
+    (words[..words.len().min(count)].join(" "), words.get(count).copied().unwrap_or(""))
 }
 
 fn bytes(text: &str, named: &BTreeMap<&str, Vec<u8>>) -> Vec<u8> {

@@ -14,8 +14,12 @@ pub fn little_endian(number: usize) -> [u8; 2] {
 /// A table part without a fault, of either edition.
 pub fn table(dice: &mut Dice) -> Vec<u8> {
     let edition = if dice.once_in(2) { Edition::First } else { Edition::Second };
-    let (states, rules, types, factor) =
-        (dice.between(1, 16), dice.between(1, 64), dice.between(1, 4), dice.between(1, 8));
+    let counts = [dice.between(1, 16), dice.between(1, 64), dice.between(1, 4), dice.between(1, 8)];
+    table_of(dice, edition, counts)
+}
+
+/// The same in an edition, with so many states, rules and types, and that k.
+pub(super) fn table_of(dice: &mut Dice, edition: Edition, [states, rules, types, factor]: [usize; 4]) -> Vec<u8> {
     let mut part = Vec::new();
     for i in 0..states {
         let initial = i == 0 || dice.once_in(3);
@@ -78,13 +82,18 @@ pub fn in_message_form(dice: &mut Dice) -> (Vec<u8>, Vec<u8>) {
     (bundle, if own && dice.once_in(2) { noise(dice) } else { table })
 }
 
-// The numbers of the forms.
-const FORMS: [u8; 3] = [Form::Message as u8, Form::Counting as u8, Form::Plain as u8];
+/// The numbers of the forms.
+pub(super) const FORMS: [u8; 3] = [Form::Message as u8, Form::Counting as u8, Form::Plain as u8];
 
 // The same for a table, which is put in front or is to stand beside it, in one of some forms.
 fn bundle_for(dice: &mut Dice, table: &[u8], own: bool, forms: &[u8]) -> Vec<u8> {
-    let factor = usize::from(table[table.len() - 1]);
     let n = if dice.once_in(4) { 64 } else { dice.between(1, 64) };
+    bundle_of(dice, table, own, forms, n)
+}
+
+/// The same of n boards.
+pub(super) fn bundle_of(dice: &mut Dice, table: &[u8], own: bool, forms: &[u8], n: usize) -> Vec<u8> {
+    let factor = usize::from(table[table.len() - 1]);
     let t = dice.between(0, (n - 1) / factor);
     let f = dice.between(0, t);
     let form = dice.one_of(forms);

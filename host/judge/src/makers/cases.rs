@@ -35,6 +35,31 @@ pub fn cases() -> Vec<Case> {
     all.into_iter().flatten().collect()
 }
 
+/// A search to measure with.
+pub struct SearchCase {
+    /// What it shows, in a word or two.
+    pub name: &'static str,
+    /// Its bundle, without steps and in counting form.
+    pub bundle: Vec<u8>,
+    /// How deep it goes; nothing is found there.
+    pub depth: u64,
+}
+
+/// All searches: the echo table with boards that have no echo to send, or all one; and the table of the largest sizes.
+pub fn searches() -> Vec<SearchCase> {
+    let of = |name, before: Vec<u8>, correct, numbers, depth| SearchCase {
+        name,
+        bundle: closed(&before, &[], correct, numbers),
+        depth,
+    };
+    vec![
+        of("echo-v0", vec![0; 6], 6, [8, 2, 2, 1], 5),
+        of("echo-v1", vec![1; 6], 6, [8, 2, 2, 1], 3),
+        of("echo-v1-12", vec![1; 9], 9, [12, 3, 3, 1], 3),
+        of("wide", [wide_table(table), (0..14).map(|p| p % 3).collect()].concat(), 14, [19, 5, 5, 1], 2),
+    ]
+}
+
 // Schedule W of the outline.
 fn w() -> Vec<u8> {
     let steps = [[0, 3, 255, 255], [1, 3, 255, 255], [2, 3, 0, 0], [2, 4, 0, 3], [2, 5, 0, 1]].map(Step::of);
@@ -51,6 +76,12 @@ type Maker = fn(Vec<[u8; 2]>, Vec<Vec<u8>>) -> Vec<u8>;
 
 // The largest sizes: 16 states, 64 rules, T = 4, n = 64, f = 21, 4,096 steps.
 fn wide(table: Maker) -> Vec<u8> {
+    let starts: Vec<u8> = (0..43).map(|p| p % 3).collect();
+    walked(&wide_table(table), &starts, [64, 21, 21, 0])
+}
+
+// A table of 16 states, 64 rules and T = 4; states 0 to 2 are initial.
+fn wide_table(table: Maker) -> Vec<u8> {
     // Three states for each number of types sent, and a fourth for all of them.
     let level = |state: usize| (state / 3).min(4);
     let states = (0..16).map(|s| [u8::from(level(s) == 0) + 2 * u8::from(level(s) == 4), (1 << level(s)) - 1]);
@@ -65,8 +96,7 @@ fn wide(table: Maker) -> Vec<u8> {
         };
         rule(from, to, [asks(0), asks(1), asks(2), asks(3)])
     });
-    let starts: Vec<u8> = (0..43).map(|p| p % 3).collect();
-    walked(&table(states.collect(), rules.collect()), &starts, [64, 21, 21, 0])
+    table(states.collect(), rules.collect())
 }
 
 // All 64 boards are in a state that none of the 64 rules leaves.

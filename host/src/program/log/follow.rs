@@ -1,10 +1,10 @@
 //! What `replay --follow` has to say: a row as soon as its line has come in, up to the first refusal or the end. For each line
 //! the lines up to it are replayed, so that the library alone says what becomes of them.
 
-use super::{line, lines, replay, Replayed};
+use super::{line, lines, Replayed};
 use crate::args::Input;
 use crate::files;
-use crate::replies::{Question, Reply};
+use crate::replies::{self, Question, Reply};
 use crate::show::{self, Columns, Style};
 use crate::trace::{self, Move};
 use macaroosh::calls::Step;
@@ -26,7 +26,7 @@ pub fn reply(asked: &Question, from: &Input, path: Option<&Path>) -> Result<Repl
     let question = Question { bundle: bundle.unwrap_or(asked.bundle), log: Some(log.so_far()), ..*asked };
     let result = if asked.style == Style::Plain { show::result(last.answer) } else { String::new() };
     let reply = question.reply(result, last.answer.refused());
-    Ok(replay::kept(reply, &question, bundle, path))
+    Ok(replies::kept(reply, &question, bundle, path))
 }
 
 // Shows a row for each line, up to a refusal, the end, or a reader that has seen enough: the last replay.

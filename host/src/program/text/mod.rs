@@ -30,7 +30,8 @@ pub const MOST_TEXT: usize = MOST_DRAWING
 // The words for sources 0 and 1 in counting form.
 const TAGS: [&str; 2] = ["correct", "faulty"];
 
-fn wrote(output: &[u8], thing: &str, form: Form, steps: usize, path: Option<&Path>) -> String {
+/// That a bundle or its text was written.
+pub fn wrote(output: &[u8], thing: &str, form: Form, steps: usize, path: Option<&Path>) -> String {
     let (bytes, to, steps) = (show::counted(output.len(), "byte"), show::to(path), show::counted(steps, "step"));
     format!("wrote {bytes}{to}: {thing} in {} form with {steps}\n", form.name())
 }
