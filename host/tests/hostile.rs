@@ -609,7 +609,7 @@ fn a_refused_input_leaves_the_file_unless_it_is_asked_for() {
     assert_eq!(refused(&["first", "--plain"]), kept("result 24 4\nnone\n"));
     assert_eq!(refused(&["translate"]), kept(""));
     let (shown, file) = refused(&["trace"]);
-    assert_eq!((shown.lines().count(), &*file), (9, "as it was"));
+    assert_eq!((shown.lines().count(), &*file), (10, "as it was"));
     assert_eq!(refused(&["run", "--plain", "--partial"]), (String::new(), LEFT.to_string()));
     assert_eq!(refused(&["trace", "--partial"]), (String::new(), shown));
     for command in ["first", "translate", "draw", "undraw", "log"] {

@@ -105,35 +105,37 @@ fn trace_shows_each_step() {
 message form, n = 4, t = 1, f = 1: boards 0 to 2 are correct, 3 is faulty
 boards start in states 1 1 1
 after each step: what its board has (from correct + faulty boards), and what was sent
+^ this line and the one above it can be exchanged: the configuration after both is the same
 
-step  board  rule  from -> to           receives              sends   has type 0  sent type 0
-   0      0     3     1 -> 2            no message            type 0         0+0            1
-   1      1     3     1 -> 2            no message            type 0         0+0            2
-   2      2     3     1 -> 2            type 0 from board 0   type 0         1+0            3
-   3      2     4     2 -> 2            type 0 from faulty 3                 1+1            3
-   4      2     5     2 -> 3 accepting  type 0 from board 1                  2+1            3
+step    board  rule  from -> to           receives              sends   has type 0  sent type 0
+   0        0     3     1 -> 2            no message            type 0         0+0            1
+   1 ^      1     3     1 -> 2            no message            type 0         0+0            2
+   2 ^      2     3     1 -> 2            type 0 from board 0   type 0         1+0            3
+   3        2     4     2 -> 2            type 0 from faulty 3                 1+1            3
+   4        2     5     2 -> 3 accepting  type 0 from board 1                  2+1            3
 ";
     says(&["trace"], "w.bundle", 0, shown, "");
     // For a counting schedule the tag, and the sender that the translation chooses.
     let counting = text(&asked(&[OsStr::new("trace"), example("w-counting.bundle").as_os_str()]).stdout).to_string();
     let senders = [("no message", ""), ("no message", ""), ("board 0", "0 correct"), ("faulty 3", "1 faulty")];
-    for (line, (sender, tag)) in counting.lines().skip(6).zip(senders) {
+    for (line, (sender, tag)) in counting.lines().skip(7).zip(senders) {
         assert!(line.contains(sender) && line.contains(tag), "{line}");
     }
-    assert_eq!(counting.lines().count(), 11);
+    assert_eq!(counting.lines().count(), 12);
     // For a plain one the sender alone, and one count.
     let shown = "\
 plain form, n = 4, t = 1, f = 1: boards 0 to 2 are correct, 3 is faulty
 boards start in states 1 1 1
 after each step: what its board has (from correct and faulty boards together), and what was sent
 senders are those that the translation chooses
+^ this line and the one above it can be exchanged: the configuration after both is the same
 
-step  board  rule  from -> to           receives             sends   has type 0  sent type 0
-   0      0     3     1 -> 2            no message           type 0           0            1
-   1      1     3     1 -> 2            no message           type 0           0            2
-   2      2     3     1 -> 2            type 0 from board 0  type 0           1            3
-   3      2     4     2 -> 2            type 0 from board 1                   2            3
-   4      2     5     2 -> 3 accepting  type 0 from board 2                   3            3
+step    board  rule  from -> to           receives             sends   has type 0  sent type 0
+   0        0     3     1 -> 2            no message           type 0           0            1
+   1 ^      1     3     1 -> 2            no message           type 0           0            2
+   2 ^      2     3     1 -> 2            type 0 from board 0  type 0           1            3
+   3        2     4     2 -> 2            type 0 from board 1                   2            3
+   4        2     5     2 -> 3 accepting  type 0 from board 2                   3            3
 ";
     says(&["trace"], "w-plain.bundle", 0, shown, "");
 }
@@ -178,7 +180,7 @@ fn a_refused_trace_shows_the_steps_before() {
     let got = asked(&words);
     assert_eq!((got.status.code(), text(&got.stderr)), (Some(1), TWICE));
     let last = text(&got.stdout).lines().last().expect("a line").to_string();
-    assert!(last.starts_with("   3      2     4     2 -> 2   type 0 from faulty 3"), "{last}");
+    assert!(last.starts_with("   3        2     4     2 -> 2   type 0 from faulty 3"), "{last}");
 }
 
 #[test]

@@ -455,10 +455,10 @@ fn traces_alike(room: &Path, made: &[u8], log: &str) {
     let (whole, come) = (replay(&["--trace", "--plain"]), replay(&["--follow", "--plain"]));
     let (result, rows) = text(&whole.stdout).split_once('\n').expect("a line");
     assert_eq!((come.status, text(&come.stdout)), (whole.status, &*format!("{rows}{result}\n")));
-    // For people the columns may be wider.
+    // For people the columns may be wider, and the sign is told before it is known whether it comes.
     let words = |output: &Output| {
         let lines = text(&output.stdout).lines().map(|line| line.split_whitespace().collect::<Vec<_>>().join(" "));
-        (lines.collect::<Vec<String>>(), text(&output.stderr).to_string())
+        (lines.filter(|line| !line.starts_with("^ ")).collect::<Vec<String>>(), text(&output.stderr).to_string())
     };
     assert_eq!(words(&replay(&["--follow"])), words(&replay(&["--trace"])));
 }
@@ -591,15 +591,15 @@ fn a_row_comes_as_soon_as_its_line_has_come_in() {
     assert_eq!(following.rows(2), trace_of_w(0, 2));
     following.send("board 0 ru");
     following.send("le 3\nboard");
-    assert_eq!(following.rows(4), trace_of_w(2, 6));
+    assert_eq!(following.rows(5), trace_of_w(2, 7));
     following.send(" 1 rule 3");
     following.send("\n");
-    assert_eq!(following.rows(1), trace_of_w(6, 7));
+    assert_eq!(following.rows(1), trace_of_w(7, 8));
     // Two lines and a piece of a third in one.
     following.send("board 2 rule 3 type 0 from 0\nboard 2 rule 4 type 0 from 3\nboard 2 rule 5 type 0 fro");
-    assert_eq!(following.rows(2), trace_of_w(7, 9));
+    assert_eq!(following.rows(2), trace_of_w(8, 10));
     following.send("m 1\n");
-    assert_eq!(following.rows(1), trace_of_w(9, 10));
+    assert_eq!(following.rows(1), trace_of_w(10, 11));
     assert_eq!(following.ends_with_its_input(), (String::new(), String::new(), Some(0)));
 }
 
@@ -623,7 +623,7 @@ fn it_ends_at_a_refused_line_while_the_writer_stays_open() {
     let out = room("stays-open").join("out");
     let mut following = Following::of("w-empty.bundle", &["-o", name(&out)]);
     following.send("board 0 rule 3\nboard 1 rule 3\nboard 2 rule 3 type 0 from 0\n");
-    assert_eq!(following.rows(8).lines().count(), 8);
+    assert_eq!(following.rows(9).lines().count(), 9);
     // The line after the refused one is not looked at, though it has come in with it.
     following.send("board 2 rule 4 type 0 from 0\nnonsense\n");
     let (rows, told, status) = following.ends_by_itself();
@@ -646,7 +646,7 @@ fn it_ends_at_a_line_of_another_shape_while_the_writer_stays_open() {
     for wrong in ["board 1 rule x\n", "board 1 rule x", "board 1 rule 3\r", "\n", "board 01"] {
         let mut following = Following::of("w-empty.bundle", &[]);
         following.send("board 0 rule 3\n");
-        assert_eq!(following.rows(6), trace_of_w(0, 6));
+        assert_eq!(following.rows(7), trace_of_w(0, 7));
         following.send(wrong);
         let (rows, told, status) = following.ends_by_itself();
         assert_eq!((&*rows, status), ("", Some(1)), "{wrong}");
@@ -686,7 +686,7 @@ fn a_line_too_many_ends_it() {
 fn at_the_end_of_its_input_a_piece_is_a_line_of_another_shape() {
     let mut following = Following::of("w-empty.bundle", &[]);
     following.send("board 0 rule 3\nboard 1 rule 3");
-    assert_eq!(following.rows(6), trace_of_w(0, 6));
+    assert_eq!(following.rows(7), trace_of_w(0, 7));
     let told = "\
 refused 50 at line 1: the line has another shape, or a number over 254
 line 2, column 15, as an editor counts from 1: the log ends here without a line feed, and every line ends with one

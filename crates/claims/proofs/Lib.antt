@@ -20,3 +20,4 @@ pub mod Editions
 pub mod SearchOrder
 pub mod SearchForms
 pub mod Search
+pub mod Exchange

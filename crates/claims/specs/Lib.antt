@@ -12,3 +12,4 @@ pub mod Maxima
 pub mod Replay
 pub mod Editions
 pub mod Search
+pub mod Exchange

@@ -28,7 +28,7 @@ module _ (C T k : ℕ) where
   unfolding cellAt
   cell-above p m e = omega arith
 
-  cell-inj : (p m e q j i : ℕ) → m < T → e < k → j < T → i < k → cellAt C T k p m e ≡ cellAt C T k q j i → (p ≡ q) × (m ≡ j) × (e ≡ i)
+  pub cell-inj : (p m e q j i : ℕ) → m < T → e < k → j < T → i < k → cellAt C T k p m e ≡ cellAt C T k q j i → (p ≡ q) × (m ≡ j) × (e ≡ i)
   unfolding cellAt
   cell-inj p m e q j i hm he hj hi h =
       let h₁ : (p * T + m) * k + e ≡ (q * T + j) * k + i = omega arith in

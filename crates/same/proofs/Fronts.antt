@@ -24,6 +24,7 @@ use Rattle.rules.specs.Design.{designOf}
 use Rattle.engine.specs.Design.{sizesOf, designWith, sizesIn, designIn}
 use Rattle.engine.specs.Entry.{scheduleOf}
 use Rattle.same.specs.Same.{SameRun}
+use Rattle.same.proofs.Runs.{ran-by}
 
 module _ (s c : List ℕ) (some : 1 ≤ length s) (whole : length c ≡ startDistance c + trailerBytes) where
   abbrev b : List ℕ
@@ -102,10 +103,12 @@ module _ (s c : List ℕ) (some : 1 ≤ length s) (whole : length c ≡ startDis
   sizes = λ i. record { level = levelOf (at 7 i); correct = correct i; faulty = at 6 i; types = typesOf s; rules = rulesOf s; wide = wide (levelOf (at 7 i)); row = typesOf s * wide (levelOf (at 7 i)) }
 
   pub as-beside : (standing : List ℕ) → SameRun b standing c s
-  as-beside standing = record {
-    fault = ap (λ (x : List ℕ). faultWith x b) (used standing) ∙ fault ∙ ap (λ (x : List ℕ). faultWith x c) beside;
-    sizes = ap (λ (x : List ℕ). sizesOf x b) (used standing) ∙ sizes ∙ ap (λ (x : List ℕ). sizesOf x c) beside;
-    design = ap (λ (x : List ℕ). designWith x b) (used standing) ∙ (λ i. designOf (sizes i) (at 5 i) s) ∙ ap (λ (x : List ℕ). designWith x c) beside;
-    starts = starts;
-    schedule = ap stepsIn steps;
-  }
+  as-beside standing =
+      let same-sizes = ap (λ (x : List ℕ). sizesOf x b) (used standing) ∙ sizes ∙ ap (λ (x : List ℕ). sizesOf x c) beside in
+      let design = ap (λ (x : List ℕ). designWith x b) (used standing) ∙ (λ i. designOf (sizes i) (at 5 i) s) ∙ ap (λ (x : List ℕ). designWith x c) beside in
+      record {
+        fault = ap (λ (x : List ℕ). faultWith x b) (used standing) ∙ fault ∙ ap (λ (x : List ℕ). faultWith x c) beside;
+        sizes = same-sizes;
+        design = design;
+        ran = ran-by b standing c s same-sizes design starts (ap stepsIn steps);
+      }

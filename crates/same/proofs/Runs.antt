@@ -36,26 +36,27 @@ use Rattle.first_step.specs.Entry.{firstAfter, afterRun, firstAnswer}
 use Rattle.same.specs.Same.{SameTable, SameRun}
 use Rattle.same.proofs.Tables.{fault-same, design-same}
 
--- ---- one law: the same refusal, sizes, design, starts and steps give the same answers
-module _ {b st b′ st′ : List ℕ} (E : SameRun b st b′ st′) where
-  ran-same : ranOf b st ≡ ranOf b′ st′
-  unfolding ranWith
-  ran-same = λ i. run (E .sizes i .level) (E .design i) (start (E .sizes i .types) (wide (E .sizes i .level)) (E .starts i)) (E .schedule i)
+-- the same sizes, design, starts and steps give the same run
+pub ran-by : (b st b′ st′ : List ℕ) → sizesIn b st ≡ sizesIn b′ st′ → designIn b st ≡ designIn b′ st′ → startsOf b ≡ startsOf b′ → scheduleOf b ≡ scheduleOf b′ → ranOf b st ≡ ranOf b′ st′
+unfolding ranWith
+ran-by b st b′ st′ s d w ss = λ i. run (s i .level) (d i) (start (s i .types) (wide (s i .level)) (w i)) (ss i)
 
+-- ---- one law: the same refusal, sizes, design and run give the same answers
+module _ {b st b′ st′ : List ℕ} (E : SameRun b st b′ st′) where
   pub run-same : (lent : ℕ) → runAnswer b st lent ≡ runAnswer b′ st′ lent
   unfolding runAnswer
   run-same lent =
-      λ i. nothingDone (E .fault i) if E .fault i .number differs 0 else nothingDone (refused 30) if lent below roomOf (E .sizes i) else ranAnswer (ran-same i)
+      λ i. nothingDone (E .fault i) if E .fault i .number differs 0 else nothingDone (refused 30) if lent below roomOf (E .sizes i) else ranAnswer (E .ran i)
 
   pub words-same : (words : List ℕ) → runWords b st words ≡ runWords b′ st′ words
   unfolding runWords
   words-same words =
-      λ i. words if E .fault i .number differs 0 else words if length words below roomOf (E .sizes i) else ran-same i .left ++ drop (roomOf (E .sizes i)) words
+      λ i. words if E .fault i .number differs 0 else words if length words below roomOf (E .sizes i) else E .ran i .left ++ drop (roomOf (E .sizes i)) words
 
   pub first-same : firstAnswer b st ≡ firstAnswer b′ st′
   unfolding firstAnswer afterRun
   first-same =
-      λ i. First.Refused (E .fault i .number) (E .fault i .place) if E .fault i .number differs 0 else firstAfter (E .sizes i .level) (E .design i) (ran-same i)
+      λ i. First.Refused (E .fault i .number) (E .fault i .place) if E .fault i .number differs 0 else firstAfter (E .sizes i .level) (E .design i) (E .ran i)
 
 -- of one bundle the translations too, since the rest of its bytes stays
 module _ {b st st′ : List ℕ} (E : SameRun b st b st′) where
@@ -67,13 +68,13 @@ module _ {b st st′ : List ℕ} (E : SameRun b st b st′) where
   unfolding translateToAnswer
   translate-same k lent =
       λ i. nothingDone (E .fault i) if E .fault i .number differs 0 else nothingDone (refused 31) if noOther b k else
-      nothingDone (refused 30) if lent below length b else wrote (length b) (ran-same E i)
+      nothingDone (refused 30) if lent below length b else wrote (length b) (E .ran i)
 
   pub bytes-same : (k : ℕ) (out : List ℕ) → translateToBytes b st k out ≡ translateToBytes b st′ k out
   unfolding translateToBytes
   bytes-same k out =
       λ i. out if E .fault i .number differs 0 else out if noOther b k else out if length out below length b else
-      out if ran-same E i .refusal differs 0 else written-same k i ++ drop (length b) out
+      out if E .ran i .refusal differs 0 else written-same k i ++ drop (length b) out
 
 -- ---- beside tables that say the same
 module _ (b : List ℕ) {s s′ : List ℕ} (E : SameTable s s′) (c : Clean (tableFault s)) (c′ : Clean (tableFault s′)) where
@@ -85,12 +86,13 @@ module _ (b : List ℕ) {s s′ : List ℕ} (E : SameTable s s′) (c : Clean (t
   beside z =
       let u = sym (use-standing b s refl z) in
       let u′ = use-standing b s′ refl z in
+      let sizes = ap (λ (x : List ℕ). sizesOf x b) u ∙ sizes-same ∙ ap (λ (x : List ℕ). sizesOf x b) u′ in
+      let design =
+      ap (λ (x : List ℕ). designWith x b) u ∙ design-same s s′ E (sizesOf s b) (tOf b) refl refl ∙
+      ap (λ (z : Sizes). designOf z (tOf b) s′) sizes-same ∙ ap (λ (x : List ℕ). designWith x b) u′ in
       record {
         fault = ap (λ (x : List ℕ). faultWith x b) u ∙ fault-same s s′ E b c c′ ∙ ap (λ (x : List ℕ). faultWith x b) u′;
-        sizes = ap (λ (x : List ℕ). sizesOf x b) u ∙ sizes-same ∙ ap (λ (x : List ℕ). sizesOf x b) u′;
-        design =
-            ap (λ (x : List ℕ). designWith x b) u ∙ design-same s s′ E (sizesOf s b) (tOf b) refl refl ∙
-            ap (λ (z : Sizes). designOf z (tOf b) s′) sizes-same ∙ ap (λ (x : List ℕ). designWith x b) u′;
-        starts = refl;
-        schedule = refl;
+        sizes = sizes;
+        design = design;
+        ran = ran-by b s b s′ sizes design refl refl;
       }

@@ -2,13 +2,14 @@
 use mathlib.Core.Path.{_≡_, refl, sym, ap, _∙_, subst}
 use mathlib.Core.Logic.{_≢_}
 use mathlib.Core.Bool.{true, false, not}
-use Prim.Native.Nat.{ℕ, zero, suc, _+_, _-_, _/_, _%_, _^_, _<_}
+use Prim.Native.Nat.{ℕ, zero, suc, _+_, _-_, _/_, _%_, _^_, _<_, max}
 use native.Mathlib.Nat.{mod-lt, zero-div, div-self, div-eq-of-lt, div-one, mul-mod-left, pow-suc}
 use native.Mathlib.Numerals.{one-add}
 use native.Mathlib.Omega.{arith}
 use native.Mathlib.Decide.{decLt}
 use lib.Dec.{eqb}
-use lib.Bits.{bitOr, or-shr, or-mod, or-zero-r}
+use lib.Arith.{bin-ind}
+use lib.Bits.{bitOr, or-step, or-comm, or-shr, or-mod, or-zero-r}
 use lib.Pow.{pow-pos, pow-lt, pow-add, shl-shr, shr-shr}
 use Rattle.senders.specs.Tally.{count}
 use Rattle.senders.specs.Set.{mem, insert, missing}
@@ -61,6 +62,23 @@ set-laws = record {
   insert-same = λ s q. ap (λ (x : ℕ). eqb x 1) (bit-or s (2 ^ q) q ∙ ap (bitOr (s / 2 ^ q % 2)) (bit-pow-same q) ∙ or-one (s / 2 ^ q % 2) (mod-lt (s / 2 ^ q) (omega arith)));
   insert-other = λ s q k o. ap (λ (x : ℕ). eqb x 1) (bit-or s (2 ^ q) k ∙ ap (bitOr (s / 2 ^ k % 2)) (bit-pow-other q k o) ∙ or-zero-r (s / 2 ^ k % 2));
 }
+
+-- in whichever order two are inserted, the set is the same: digit by digit
+or-swap : (s a b : ℕ) → bitOr (bitOr s a) b ≡ bitOr (bitOr s b) a
+or-swap = bin-ind (λ (s : ℕ). (a b : ℕ) → bitOr (bitOr s a) b ≡ bitOr (bitOr s b) a) or-comm (λ s ih a b. go s a b (ih (a / 2) (b / 2)))
+  where
+    half : (s a : ℕ) → bitOr s a / 2 ≡ bitOr (s / 2) (a / 2)
+    half s a = omega (arith, or-step s a)
+
+    low : (s a : ℕ) → bitOr s a % 2 ≡ max (s % 2) (a % 2)
+    low s a = omega (arith, or-step s a)
+
+    go : (s a b : ℕ) → bitOr (bitOr (s / 2) (a / 2)) (b / 2) ≡ bitOr (bitOr (s / 2) (b / 2)) (a / 2) → bitOr (bitOr s a) b ≡ bitOr (bitOr s b) a
+    go s a b ih = rw (or-step (bitOr s a) b, or-step (bitOr s b) a, half, half, low, low, ih) (omega arith)
+
+pub insert-swap : (p q s : ℕ) → insert p (insert q s) ≡ insert q (insert p s)
+unfolding insert
+insert-swap p q s = or-swap s (2 ^ q) (2 ^ p)
 
 -- ---- counts
 misses : (c s u : ℕ) → count c (mem s) < count c (mem u) → (q : ℕ) × (q < c) × (missing u s q ≡ true)

@@ -135,13 +135,23 @@ impl<'a> Parts<'a> {
 
     /// The bytes of the bundle with its first `i` steps.
     pub fn first(&self, i: usize) -> Vec<u8> {
-        self.closed(&self.steps[..self.steps.len().min(4 * i)])
+        self.closed(self.records(i))
+    }
+
+    /// The bytes of the bundle with its first `i` steps, and then a step.
+    pub fn first_and(&self, i: usize, step: Step) -> Vec<u8> {
+        self.closed(&[self.records(i), &step.record()].concat())
     }
 
     /// The bytes of the bundle with these steps more, of which there is room for up to `MOST_STEPS` in all.
     pub fn with(&self, steps: &[Step]) -> Vec<u8> {
         let records = steps.iter().flat_map(|step| step.record());
         self.closed(&self.steps.iter().copied().chain(records).collect::<Vec<u8>>())
+    }
+
+    // The records of the first `i` steps.
+    fn records(&self, i: usize) -> &'a [u8] {
+        &self.steps[..self.steps.len().min(4 * i)]
     }
 
     // The bytes of the bundle with other steps.

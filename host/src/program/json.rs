@@ -12,6 +12,8 @@ use std::fmt::{self, Display, Formatter, Write};
 pub enum Json {
     /// What there is none of.
     Null,
+    /// Whether something is so.
+    Truth(bool),
     /// A whole number.
     Number(u64),
     /// A text, which is escaped as it is written.
@@ -28,6 +30,7 @@ impl Display for Json {
     fn fmt(&self, to: &mut Formatter) -> fmt::Result {
         match self {
             Json::Null => to.write_str("null"),
+            Json::Truth(truth) => write!(to, "{truth}"),
             Json::Number(number) => write!(to, "{number}"),
             Json::Text(text) => quoted(text, to),
             Json::List(values) => {
@@ -193,6 +196,7 @@ fn step(parts: &Parts, made: &Move) -> Json {
     fields.push(("state", Json::Number(made.after.states[board])));
     fields.push(("received", received(&made.after.received[board])));
     fields.push(("sent", sent(&made.after)));
+    fields.push(("swaps_with_previous", Json::Truth(made.swaps)));
     Json::Object(fields)
 }
 

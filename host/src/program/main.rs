@@ -39,8 +39,8 @@ const USAGE: &str = "\
 Macaroosh runs a schedule of steps against a threshold table.
 
   macaroosh run FILE         show the configuration that the schedule leaves
-  macaroosh trace FILE       show each step: who sent what to whom, and the
-                             counts after it
+  macaroosh trace FILE       show each step: who sent what to whom, the counts
+                             after it, and which lines can be exchanged
   macaroosh first FILE       name the first step that is possible after it, or
                              say that the run is quiet: nothing but waits
   macaroosh search FILE      find the first steps after it that put a board in

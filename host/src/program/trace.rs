@@ -1,5 +1,6 @@
 //! Each step of a schedule, by the library alone: the bundle with its first i steps is run for each i, and the senders of a
-//! counting or plain schedule come from its translation to message form, the tags of a message schedule from that to counting.
+//! counting or plain schedule come from its translation to message form, the tags of a message schedule from that to counting. Whether
+//! two neighbours can be exchanged is a run in which the second stands in the place of the first.
 
 use crate::json;
 use crate::part::Part;
@@ -38,6 +39,9 @@ pub struct Move {
     pub other: Step,
     /// What the configuration comes to after it.
     pub after: Picture,
+    /// Whether it and the step before it can be exchanged: they are of different boards, and both are accepted from the configuration
+    /// before them.
+    pub swaps: bool,
 }
 
 /// The accepted steps of a bundle, as far as they are asked for.
@@ -49,14 +53,27 @@ pub fn moves(parts: &Parts, standing: &[u8], accepted: usize, part: Part) -> Vec
         parts.picture(&words)
     };
     let shown = parts.steps().zip(others).enumerate().filter(|&(number, (step, _))| part.has(number, step));
-    shown.map(|(number, (step, other))| Move { number, step, other, after: after(number + 1) }).collect()
+    let made = |(number, (step, other))| {
+        let (after, swaps) = (after(number + 1), swaps(parts, standing, number, step));
+        Move { number, step, other, after, swaps }
+    };
+    shown.map(made).collect()
 }
 
 /// The last step of a schedule that runs and has left these words.
 pub fn last(parts: &Parts, standing: &[u8], words: &[u64]) -> Option<Move> {
     let other = translated(parts, standing, parts.length()).pop()?;
-    let number = parts.length().checked_sub(1)?;
-    Some(Move { number, step: parts.steps().last()?, other, after: parts.picture(words) })
+    let (number, step) = parts.steps().enumerate().last()?;
+    Some(Move { number, step, other, after: parts.picture(words), swaps: swaps(parts, standing, number, step) })
+}
+
+// Whether an accepted step can be exchanged with the one before it. That is accepted where it stands, so the step is asked there.
+fn swaps(parts: &Parts, standing: &[u8], number: usize, step: Step) -> bool {
+    let asked = |(place, before): (usize, Step)| {
+        let accepted = || run(&parts.first_and(place, step), standing, &mut [0; MOST_WORDS]).refusal == 0;
+        before.board != step.board && accepted()
+    };
+    parts.steps().enumerate().take(number).last().map_or(false, asked)
 }
 
 // The accepted steps translated.
@@ -84,9 +101,16 @@ fn table(parts: &Parts, moves: &[Move], part: Part) -> String {
 
 /// A row for each step, and what they show.
 pub fn rows(parts: &Parts, moves: &[Move]) -> String {
-    let rows = moves.iter().map(|m| row(parts, m));
-    let rows: Vec<Vec<String>> = std::iter::once(head(parts)).chain(rows).collect();
-    legend(parts) + &show::aligned(&rows, &left(parts))
+    let signs = signs(moves);
+    let any = signs.contains(&true);
+    let rows = std::iter::once((head(parts), false)).chain(moves.iter().map(|m| row(parts, m)).zip(signs));
+    let rows: Vec<Vec<String>> = rows.map(|(row, sign)| if any { signed(row, sign) } else { row }).collect();
+    legend(parts, any) + &show::aligned(&rows, &left(parts))
+}
+
+// Which rows have the sign: the one above must be that of the step before, which need not be shown.
+fn signs(moves: &[Move]) -> Vec<bool> {
+    (0..moves.len()).map(|i| i > 0 && moves[i].swaps && moves[i - 1].number + 1 == moves[i].number).collect()
 }
 
 /// What is so before any step.
@@ -95,11 +119,21 @@ pub fn opening(parts: &Parts) -> String {
     format!("{}\nboards start in states{starts}\n", show::setting(parts))
 }
 
-/// What the rows show.
-pub fn legend(parts: &Parts) -> String {
+/// What the rows show, with the sign or without it.
+pub fn legend(parts: &Parts, signs: bool) -> String {
     let chosen = if parts.form == Form::Message { "" } else { "senders are those that the translation chooses\n" };
     let counts = show::counts_of(parts);
-    format!("after each step: what its board has ({counts}), and what was sent\n{chosen}\n")
+    let sign = if signs { SIGN_MEANS } else { "" };
+    format!("after each step: what its board has ({counts}), and what was sent\n{chosen}{sign}\n")
+}
+
+const SIGN_MEANS: &str =
+    "^ this line and the one above it can be exchanged: the configuration after both is the same\n";
+
+/// A row with the sign after its number, or with a place for it.
+pub fn signed(mut row: Vec<String>, sign: bool) -> Vec<String> {
+    row[0] += if sign { " ^" } else { "  " };
+    row
 }
 
 // The columns that every trace has.
@@ -158,7 +192,7 @@ pub fn start_line(parts: &Parts) -> String {
 
 /// For programs: a step's number, record and translated source, and the report's lines of its board and of what was sent.
 pub fn lines_of(made: &Move) -> String {
-    let Move { number, step, other, after } = made;
+    let Move { number, step, other, after, .. } = made;
     let step_line = format!("{} {}\n", step_line(*number, *step), other.source);
     step_line + &show::board_line(after, usize::from(step.board)) + &show::sent_line(after)
 }

@@ -8,6 +8,7 @@ use std::str::Chars;
 #[derive(Debug, PartialEq)]
 pub enum Json {
     Null,
+    Truth(bool),
     Number(u64),
     Text(String),
     List(Vec<Json>),
@@ -88,12 +89,17 @@ impl Reader<'_> {
                 Json::List(values)
             }
             Some('"') => Json::Text(self.text()),
-            Some('n') => {
-                assert_eq!(self.0.by_ref().take(4).collect::<String>(), "null");
-                Json::Null
-            }
+            Some('n') => self.word("null", Json::Null),
+            Some('t') => self.word("true", Json::Truth(true)),
+            Some('f') => self.word("false", Json::Truth(false)),
             _ => self.number(),
         }
+    }
+
+    // The value that a word stands for.
+    fn word(&mut self, word: &str, value: Json) -> Json {
+        assert_eq!(self.0.by_ref().take(word.len()).collect::<String>(), word);
+        value
     }
 
     fn items(&mut self, last: char, mut item: impl FnMut(&mut Self)) {

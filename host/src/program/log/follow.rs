@@ -107,8 +107,8 @@ impl<'a> Listing<'a> {
     fn of(asked: &'a Question<'a>) -> Listing<'a> {
         let parts = Parts::of(asked.bundle, asked.standing).filter(|_| asked.style == Style::People);
         let columns = parts.map(|parts| {
-            let rows = widest(&parts).into_iter().map(|made| trace::row(&parts, &made));
-            let rows: Vec<Vec<String>> = std::iter::once(trace::head(&parts)).chain(rows).collect();
+            let rows = widest(&parts).into_iter().map(|made| row(&parts, &made));
+            let rows: Vec<Vec<String>> = std::iter::once(head(&parts)).chain(rows).collect();
             Columns::of(&rows, &trace::left(&parts))
         });
         Listing { asked, columns }
@@ -128,13 +128,22 @@ impl<'a> Listing<'a> {
         let made = parts.as_ref().and_then(|parts| trace::last(parts, standing, &replayed.words));
         match (&parts, made, &self.columns) {
             (Some(parts), Some(made), Some(columns)) => {
-                let heading = (made.number == 0).then(|| trace::legend(parts) + &columns.line(&trace::head(parts)));
-                heading.unwrap_or_default() + &columns.line(&trace::row(parts, &made))
+                let heading = (made.number == 0).then(|| trace::legend(parts, true) + &columns.line(&head(parts)));
+                heading.unwrap_or_default() + &columns.line(&row(parts, &made))
             }
             (_, Some(made), None) => trace::lines_of(&made),
             _ => String::new(),
         }
     }
+}
+
+// The columns' names and the row of a step, with a place for the sign, which may come. The step before it is always shown above it.
+fn head(parts: &Parts) -> Vec<String> {
+    trace::signed(trace::head(parts), false)
+}
+
+fn row(parts: &Parts, made: &Move) -> Vec<String> {
+    trace::signed(trace::row(parts, made), made.swaps)
 }
 
 // Rows of which some is as wide as any that may come, in each column: the largest numbers, by each rule, of each message.
@@ -150,7 +159,7 @@ fn widest(parts: &Parts) -> Vec<Move> {
     };
     let made = |rule: u8, (kind, source): (u8, u8)| {
         let step = Step { board: correct as u8 - 1, rule, kind, source };
-        Move { number: MOST_STEPS - 1, step, other: step, after: after.clone() }
+        Move { number: MOST_STEPS - 1, step, other: step, after: after.clone(), swaps: true }
     };
     let by = |rule: u8| messages.iter().map(|&message| made(rule, message)).collect::<Vec<Move>>();
     (0..parts.rules() as u8).flat_map(by).collect()

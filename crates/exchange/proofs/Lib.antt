@@ -1,0 +1,4 @@
+pub mod Changes
+pub mod Parts
+pub mod Exchange
+pub mod Runs

@@ -1,0 +1,1 @@
+// Two steps of different boards, in either order. Definitions and theorems; no code.
