@@ -14,8 +14,8 @@
 extern "C" {
 #endif
 
-/* The most words that a configuration has: 64 states, 64 * 4 pairs of counts, 4 sent counts. */
-#define MACAROOSH_MOST_WORDS 580
+/* The most words that a configuration has: 64 states, 64 * 4 pairs of counts, 4 sent counts, the set of stopped boards. */
+#define MACAROOSH_MOST_WORDS 581
 
 /* The most bytes that a bundle has. */
 #define MACAROOSH_MOST_BYTES 17648
@@ -28,8 +28,10 @@ extern "C" {
  * MACAROOSH_MOST_WORDS are always enough (`words_length` counts words, not bytes):
  *   message form:  C states; C * T received sets, board by board, bit q for sender q; T sent sets;
  *   counting form: C states; for each board and type the correct count and then the faulty one; T sent counts;
- *   plain form:    C states; for each board and type one count; T sent counts.
- * Answers packed: refusal, place, steps accepted. A run refused at step i (20 to 25) leaves the configuration after i steps;
+ *   plain form:    C states; for each board and type one count; T sent counts;
+ * and then in each form one word more, the set of stopped boards, bit p for board p. A step with rule 254 and no message stops its
+ * board, which takes no further step; what it has sent stays sent.
+ * Answers packed: refusal, place, steps accepted. A run refused at step i (20 to 27) leaves the configuration after i steps;
  * any other refusal leaves the words as they were. Words past the needed ones never change. */
 uint64_t macaroosh_run(const uint8_t *bundle, size_t bundle_length, const uint8_t *standing, size_t standing_length,
                        uint64_t *words, size_t words_length);
@@ -52,8 +54,9 @@ uint64_t macaroosh_translate_to(const uint8_t *bundle, size_t bundle_length, con
                                 uint64_t form, uint8_t *out, size_t out_length);
 
 /* The first step that is possible after the whole schedule: by board, then rule, then no message before type and source. A
- * wait, which has no message and whose rule's from is its to, is accepted but is not possible. Answers a packed step; none is
- * given exactly when no step but waits is accepted there, so that the run has gone quiet, or where there is a refusal. */
+ * wait, which has no message and whose rule's from is its to, is accepted but is not possible, and neither is a stop. Answers a
+ * packed step; none is given exactly when no step but waits and stops is accepted there, so that the run has gone quiet, or where
+ * there is a refusal. */
 uint64_t macaroosh_first_step(const uint8_t *bundle, size_t bundle_length, const uint8_t *standing, size_t standing_length);
 
 /* Writes a table part as a drawing, a text in Graphviz's DOT language, to the lent bytes, of which MACAROOSH_MOST_DRAWING are
@@ -82,7 +85,7 @@ uint64_t macaroosh_undraw(const uint8_t *text, size_t text_length, uint8_t *out,
  *   board P rule R type M from Q
  * with single blanks, numbers from 0 to 254 in plain decimal without leading zeros, and one line feed at its end; an empty log has
  * no lines. Whether a board, rule, type or sender exists is the run's to say. Answers packed: refusal, place, steps accepted. Any
- * refusal but a step's (20 to 25) leaves both buffers as they were; after a step's, `out` has the whole bundle and `words` the
+ * refusal but a step's (20 to 27) leaves both buffers as they were; after a step's, `out` has the whole bundle and `words` the
  * configuration before that step. Bytes and words past those needed never change. */
 uint64_t macaroosh_replay(const uint8_t *bundle, size_t bundle_length, const uint8_t *standing, size_t standing_length,
                           const uint8_t *log, size_t log_length, uint8_t *out, size_t out_length, uint64_t *words,
@@ -98,10 +101,11 @@ uint64_t macaroosh_replay(const uint8_t *bundle, size_t bundle_length, const uin
 /* Searches for a schedule of at most `depth` steps more, after the schedule of a bundle in counting form, that puts some board in
  * an accepting state. It goes depth first, in the order of macaroosh_first_step: at each configuration all rules of the table are
  * tried for each board, with no message, but not where the rule's from is its to, and then with each type and both sources. Each
- * try counts, accepted or refused; before each it is asked whether as many as `budget` were tried. Nothing is pruned. Where a board
- * is in an accepting state already, no step is needed and none is tried. Answers packed: refusal, place, outcome: 0 to 8 for a
- * schedule of so many steps, the first in that order, which need not be the shortest; MACAROOSH_NONE, given exactly where there is
- * no such schedule and the budget sufficed; or MACAROOSH_SPENT. The steps found are written to `out`, 4 bytes each; no other byte
+ * try counts, accepted or refused, those of a stopped board too; before each it is asked whether as many as `budget` were tried.
+ * Nothing is pruned, and no stop is tried. Where a board, stopped or not, is in an accepting state already, no step is needed and
+ * none is tried. Answers packed: refusal, place, outcome: 0 to 8 for a schedule of so many steps, the first in that order, which
+ * need not be the shortest; MACAROOSH_NONE, given exactly where there is no such schedule and the budget sufficed; or
+ * MACAROOSH_SPENT. The steps found are written to `out`, 4 bytes each; no other byte
  * of it changes, and none with another outcome or with a refusal. `out` needs 4 * depth bytes, whatever is found. `tried`, which
  * may not be NULL, is set to the number tried, and to 0 with any refusal, which is the one thing that a refusal writes. The
  * refusals after 14 are 34 (all 64 bits are looked at), 35, 30, then a step's. */
@@ -132,8 +136,10 @@ uint64_t macaroosh_to_first(const uint8_t *table, size_t table_length, uint8_t *
  *   34 a depth over 8 (search)                     35 not in counting form (search)
  *   32 a divisor is not 1 [rule] (to_first)        33 in that edition already (to_second, to_first)
  *   30 lent output too short (run, translate, translate_to, to_second, to_first, search, replay: either)
- *   20 board not below n - f [step]                21 rule not in the table [step]
- *   22 rule does not leave the state [step]        23 type or source out of range [step]
+ *   20 board not below n - f [step]                26 the board is stopped [step]
+ *   21 rule not in the table [step]                22 rule does not leave the state [step]
+ *   23 type or source out of range, or a stop with a message [step]
+ *   27 no more boards may stop: those and f may not exceed t [step]
  *   24 message not in transit [step]               25 a threshold is not met [step]
  *   61 lent output too short (draw, undraw) */
 

@@ -64,9 +64,17 @@ fn main() -> Result<(), Refusal> {
     assert_eq!((second.len(), run(&w, &second)?), (58, run(&w, &ECHO)?));
     assert_eq!(to_first(&second)?, ECHO);
 
-    // With lent memory nothing is allocated; in message form a word is a set of senders.
+    // Of four boards of which one may fail, board 0 stops, and its next step is refused.
+    let stops = [1, 1, 1, 1, 0, 254, 255, 255, 4, 0, 8, 0, 4, 1, 0, 0];
+    let left = run(&stops, &ECHO)?.configuration;
+    assert_eq!((left.stopped(0), left.stopped(1), left.stopped(4)), (Some(true), Some(false), None));
+    let log = "board 0 rule 254\nboard 0 rule 3\n";
+    let refused = replay(&[1, 1, 1, 1, 0, 0, 4, 0, 4, 1, 0, 0], &ECHO, log).unwrap_err();
+    assert_eq!(refused.to_string(), "refused 26 at step 1: the board is stopped");
+
+    // With lent memory nothing is allocated; in message form a word is a set of senders, and the last is the set of stopped boards.
     let mut words = [0; MOST_WORDS];
     assert_eq!(run_into(&w, &ECHO, &mut words)?, 5);
-    assert_eq!(words[..7], [2, 2, 3, 0, 0, 0b1011, 0b111]);
+    assert_eq!(words[..8], [2, 2, 3, 0, 0, 0b1011, 0b111, 0]);
     Ok(())
 }

@@ -456,7 +456,7 @@ fn a_sound_bench_is_not_caught() {
 fn an_echo_counted_twice_lets_board_2_accept() {
     // P5: refused 24 at step 4 by the outline.
     let twice = b"\x01\x01\x01\x00\x03\xFF\xFF\x01\x03\xFF\xFF\x02\x03\x00\x00\x02\x04\x00\x03\x02\x05\x00\x00\x14\x00\x17\x00\x04\x01\x01\x00";
-    let run = |bench: &dyn Bench| bench.run(twice, &macaroosh::ECHO, &mut [0; 7]);
+    let run = |bench: &dyn Bench| bench.run(twice, &macaroosh::ECHO, &mut [0; 8]);
     assert_eq!(run(&EchoTwice), Answer { refusal: 0, place: 0, count: 5 });
     assert_eq!(run(&Library), Answer { refusal: 24, place: 4, count: 4 });
 }

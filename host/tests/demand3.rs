@@ -8,7 +8,7 @@ use judge::model::{read, Model};
 use judge::{Bench, Library};
 use macaroosh::calls::{Answer, Step};
 use macaroosh::parts::{Parts, Picture};
-use macaroosh::{Form, ECHO, MOST_WORDS};
+use macaroosh::{Form, ECHO, MOST_WORDS, STOP};
 use std::collections::BTreeSet;
 
 fn run(bench: &dyn Bench, bytes: &[u8]) -> (Answer, Vec<u64>) {
@@ -136,6 +136,7 @@ fn accepts_alike(bench: &dyn Bench, seed: u64) -> Vec<u8> {
         // Now and then one that is not there.
         let mut of = |count: usize| if dice.once_in(9) { count as u8 } else { dice.below(count) as u8 };
         let (board, rule) = (of(bundle.correct()), of(bundle.table.rules.len()));
+        let rule = if dice.once_in(6) { STOP } else { rule };
         let kind = if dice.once_in(4) { 255 } else { dice.below(bundle.table.types) as u8 };
         let step = Step { board, rule, kind, source: 255 };
         let [message, counting, plain] = [0, 1, 2].map(|i| best(bench, &forms[i], step));
@@ -147,7 +148,7 @@ fn accepts_alike(bench: &dyn Bench, seed: u64) -> Vec<u8> {
 
 fn accepts_alike_on(bench: &(dyn Bench + Sync)) {
     let seen: BTreeSet<u8> = each_seed(500, |seed| accepts_alike(bench, seed)).into_iter().flatten().collect();
-    assert_eq!(seen.into_iter().collect::<Vec<_>>(), [0, 20, 21, 22, 24, 25]);
+    assert_eq!(seen.into_iter().collect::<Vec<_>>(), [0, 20, 21, 22, 23, 24, 25, 26, 27]);
 }
 
 #[test]

@@ -214,5 +214,5 @@ fn a_schedule_runs_the_same_on_both() {
         Some(Library.run(&bundle, &standing, &mut [0; MOST_WORDS]).refusal)
     });
     let seen: BTreeSet<u8> = refusals.into_iter().flatten().collect();
-    assert_eq!(seen, (12..=14).chain(20..=25).chain([0]).collect());
+    assert_eq!(seen, (12..=14).chain(20..=27).chain([0]).collect());
 }

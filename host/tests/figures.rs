@@ -269,10 +269,10 @@ fn too_little_room_is_refused_before_a_step() {
         assert_eq!(bench.translate(&twice, &ECHO, &mut out), answer((24, 4, 0)), "{who}");
         assert_eq!(bench.translate(&w, &ECHO, &mut out[..30]), answer((30, 0, 0)), "{who}");
         assert_eq!(out, [0xAA; 31], "{who}");
-        let mut words = [7; 6];
+        let mut words = [7; 7];
         assert_eq!(bench.run(&w, &ECHO, &mut words), answer((30, 0, 0)), "{who}");
         assert_eq!(bench.run(&twice, &ECHO, &mut words), answer((30, 0, 0)), "{who}");
-        assert_eq!(words, [7; 6], "{who}");
+        assert_eq!(words, [7; 7], "{who}");
     }
 }
 
@@ -318,7 +318,7 @@ fn every_quotient_is_rounded_up() {
         for sum in -2 * i32::from(e)..=63 * i32::from(e) {
             let asked = (0..=63).find(|count| count * i32::from(e) >= sum).expect("a count") as u8;
             for (who, bench) in BENCHES {
-                let run = |heard| bench.run(&after_hearing(heard, sum, e), &[], &mut [0; 3]);
+                let run = |heard| bench.run(&after_hearing(heard, sum, e), &[], &mut [0; 4]);
                 let all = u32::from(asked) + 1;
                 assert_eq!(run(asked), answer((0, 0, all)), "{who}: {sum}/{e}");
                 if let Some(fewer) = asked.checked_sub(1) {

@@ -74,14 +74,18 @@ fn attempt(dice: &mut Dice, bundle: &Bundle, board: u8) -> Step {
     Step { board, rule, kind, source }
 }
 
-// The seed's schedule: boards hear and wait, then up to three times the listener tries to leave V0, or anything is tried. For
-// three of four seeds a board is faulty, and for odd ones the listener hears all faulty boards before.
+// The seed's schedule: boards hear and wait, perhaps one stops, then up to three times the listener tries to leave V0, or anything is
+// tried. For three of four seeds a board is faulty, and for odd ones the listener hears all faulty boards before.
 fn schedule(seed: u64, form: Form) -> Vec<u8> {
     let dice = &mut Dice::new(seed);
     let bundle = empty(dice, form, usize::from(seed % 4 != 0));
     let (n, t, f, correct) = (bundle.n, bundle.t, bundle.f, bundle.correct());
     let listener = dice.below(correct) as u8;
     let mut steps = heard(dice, &bundle, listener, if seed % 2 == 1 { f } else { 0 });
+    if dice.once_in(4) {
+        let board = if dice.once_in(2) { listener } else { dice.below(correct) as u8 };
+        steps.push(Step::stop(board));
+    }
     for _ in 0..dice.below(4) {
         steps.push(if dice.once_in(4) { wild(dice, &bundle) } else { attempt(dice, &bundle, listener) });
     }
@@ -116,7 +120,7 @@ fn outcome(bench: &dyn Bench, table: &[u8], seed: u64, form: Form) -> Outcome {
     let answer = bench.run(&bytes, standing, &mut words);
     assert!(answer.left_a_configuration(), "seed {seed}, {} form: {answer:?}", form.name());
     let parts = Parts::of(&bytes, standing).expect("a bundle that was read");
-    let sent = parts.words() - parts.types..parts.words();
+    let sent = parts.sent(0)..parts.stopped();
     let left = words[..parts.correct()].iter().chain(&words[sent]).any(|&word| word != 0);
     let echoes = parts.picture(&words).received.into_iter().map(|of_types| of_types[0].iter().sum::<u32>() as usize);
     let names = |bytes: &[u8]| names_another_rule(bench.first_step(bytes, standing));
@@ -141,7 +145,8 @@ fn nothing_comes_from_nothing(bench: &(dyn Bench + Sync)) {
     assert!(full >= Form::ALL.len() * SEEDS as usize / 2, "{full} of {}", all.len());
     // In each form schedules are accepted as a whole, and are refused for every reason.
     let seen: BTreeSet<(Form, u8)> = all.iter().map(|o| (o.form, o.answer.refusal)).collect();
-    let every = Form::ALL.into_iter().flat_map(|form| [0, 20, 21, 22, 23, 24, 25].map(|refusal| (form, refusal)));
+    let every =
+        Form::ALL.into_iter().flat_map(|form| [0, 20, 21, 22, 23, 24, 25, 26, 27].map(|refusal| (form, refusal)));
     assert_eq!(seen, every.collect());
     // The least and the most boards, and of the most none and as many as can be faulty.
     for edge in [(1, 0, 0), (4, 1, 1), (64, 0, 0), (64, 21, 0), (64, 21, 1), (64, 21, 21)] {

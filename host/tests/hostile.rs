@@ -73,8 +73,8 @@ fn mistake(got: &Output, told: &str) {
     assert!(text(&got.stderr).contains(told), "{}", text(&got.stderr));
 }
 
-const RAN: &str = "result 0 0 5\np 0 2 0 0\np 1 2 0 0\np 2 3 2 1\nsent 3\n";
-const LEFT: &str = "result 24 4 4\np 0 2 0 0\np 1 2 0 0\np 2 2 1 1\nsent 3\n";
+const RAN: &str = "result 0 0 5\np 0 2 0 0\np 1 2 0 0\np 2 3 2 1\nsent 3\nstopped 0\n";
+const LEFT: &str = "result 24 4 4\np 0 2 0 0\np 1 2 0 0\np 2 2 1 1\nsent 3\nstopped 0\n";
 
 mod script {
     use super::*;

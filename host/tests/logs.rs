@@ -98,7 +98,7 @@ fn a_bundle_comes_back_from_its_log() {
     let mut seen: BTreeMap<u8, usize> = BTreeMap::new();
     back.into_iter().flatten().for_each(|number| *seen.entry(number).or_default() += 1);
     println!("bundles by refusal: {seen:?}");
-    assert_eq!(seen.into_keys().collect::<Vec<u8>>(), [0, 20, 21, 22, 23, 24, 25]);
+    assert_eq!(seen.into_keys().collect::<Vec<u8>>(), [0, 20, 21, 22, 23, 24, 25, 26, 27]);
 }
 
 #[test]
@@ -113,7 +113,7 @@ fn what_is_measured_comes_back_from_its_log() {
 fn over_w(who: &dyn Replays, log: &[u8]) -> (Answer, Vec<u8>, Vec<u64>) {
     let replay = Replay { kind: "any", bundle: EMPTY.to_vec(), standing: ECHO.to_vec(), log: log.to_vec() };
     let lines = log.iter().filter(|&&byte| byte == b'\n').count();
-    replayed(who, &replay, EMPTY.len() + 4 * lines, 7)
+    replayed(who, &replay, EMPTY.len() + 4 * lines, 8)
 }
 
 #[test]
@@ -122,7 +122,7 @@ fn the_log_of_w_makes_w() {
     let ran = Answer { refusal: 0, place: 0, count: 5 };
     for (who, replayer) in REPLAYERS {
         let back = over_w(replayer, LOG.as_bytes());
-        assert_eq!(back, (ran, w.to_vec(), vec![2, 2, 3, 0, 0, 11, 7]), "{who}");
+        assert_eq!(back, (ran, w.to_vec(), vec![2, 2, 3, 0, 0, 11, 7, 0]), "{who}");
     }
     assert_eq!(without_steps(w), EMPTY);
     assert_eq!(log_of(&read(w, &ECHO).expect("W").steps), LOG);
@@ -273,24 +273,24 @@ fn checks_go_in_their_order() {
     let cases = [
         ("a start", &start[..], "x".to_string(), 0, 0, (14, 1, 0)),
         ("steps", w, "x".to_string(), 0, 0, (52, 0, 0)),
-        ("steps, a log that is right", w, LOG.to_string(), 99, 7, (52, 0, 0)),
+        ("steps, a log that is right", w, LOG.to_string(), 99, 8, (52, 0, 0)),
         ("another form", &counting, "x".to_string(), 0, 0, (52, 0, 0)),
-        ("another form, no log", &counting, String::new(), 99, 10, (52, 0, 0)),
+        ("another form, no log", &counting, String::new(), 99, 11, (52, 0, 0)),
         ("a line before line 4,096", &EMPTY, right(4_095) + "x\n" + &right(9), 0, 0, (50, 4_095, 0)),
         ("line 4,096", &EMPTY, right(4_096) + "x", 0, 0, (51, 4_096, 0)),
-        ("line 4,096, with room", &EMPTY, right(4_097), 20_000, 7, (51, 4_096, 0)),
+        ("line 4,096, with room", &EMPTY, right(4_097), 20_000, 8, (51, 4_096, 0)),
         ("lines past 4,096", &EMPTY, right(9_000), 0, 0, (51, 4_096, 0)),
         ("no line feed at the end of line 4,095", &EMPTY, right(4_096).trim_end().to_string(), 0, 0, (50, 4_095, 0)),
         ("a line before room", &EMPTY, format!("{LOG}\n"), 0, 0, (50, 5, 0)),
-        ("a line before a step", &EMPTY, right(2) + "x\n", 99, 7, (50, 2, 0)),
-        ("bytes", &EMPTY, right(2), 18, 7, (30, 0, 0)),
-        ("words", &EMPTY, right(2), 19, 6, (30, 0, 0)),
+        ("a line before a step", &EMPTY, right(2) + "x\n", 99, 8, (50, 2, 0)),
+        ("bytes", &EMPTY, right(2), 18, 8, (30, 0, 0)),
+        ("words", &EMPTY, right(2), 19, 7, (30, 0, 0)),
         ("neither", &EMPTY, right(2), 0, 0, (30, 0, 0)),
-        ("bytes without lines", &EMPTY, String::new(), 10, 7, (30, 0, 0)),
-        ("a step", &EMPTY, right(2), 19, 7, (22, 1, 1)),
-        ("4,096 lines", &EMPTY, right(4_096), 11 + 4 * 4_096, 7, (22, 1, 1)),
-        ("nothing", &EMPTY, String::new(), 11, 7, (0, 0, 0)),
-        ("nothing more", &EMPTY, LOG.to_string(), 31, 7, (0, 0, 5)),
+        ("bytes without lines", &EMPTY, String::new(), 10, 8, (30, 0, 0)),
+        ("a step", &EMPTY, right(2), 19, 8, (22, 1, 1)),
+        ("4,096 lines", &EMPTY, right(4_096), 11 + 4 * 4_096, 8, (22, 1, 1)),
+        ("nothing", &EMPTY, String::new(), 11, 8, (0, 0, 0)),
+        ("nothing more", &EMPTY, LOG.to_string(), 31, 8, (0, 0, 5)),
     ];
     for (who, replayer) in REPLAYERS {
         for (name, bundle, log, bytes, words, (refusal, place, count)) in &cases {

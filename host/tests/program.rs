@@ -65,7 +65,7 @@ board  state        has type 0
 ";
     says(&["run"], "w.bundle", 0, shown, "");
     says(&["run"], "w-counting.bundle", 0, &shown.replace("message form", "counting form"), "");
-    let plain = "result 0 0 5\np 0 2 0 0\np 1 2 0 0\np 2 3 2 1\nsent 3\n";
+    let plain = "result 0 0 5\np 0 2 0 0\np 1 2 0 0\np 2 3 2 1\nsent 3\nstopped 0\n";
     says(&["run", "--plain"], "w.bundle", 0, plain, "");
     says(&["--plain", "run"], "w-counting.bundle", 0, plain, "");
     let shown = "\
@@ -79,7 +79,7 @@ board  state        has type 0
  sent                        3
 ";
     says(&["run"], "w-plain.bundle", 0, shown, "");
-    says(&["run", "--plain"], "w-plain.bundle", 0, "result 0 0 5\np 0 2 0\np 1 2 0\np 2 3 3\nsent 3\n", "");
+    says(&["run", "--plain"], "w-plain.bundle", 0, "result 0 0 5\np 0 2 0\np 1 2 0\np 2 3 3\nsent 3\nstopped 0\n", "");
 }
 
 #[test]
@@ -95,7 +95,7 @@ board  state  has type 0
  sent                  3
 ";
     says(&["run"], "w-echo-twice.bundle", 1, shown, TWICE);
-    let plain = "result 24 4 4\np 0 2 0 0\np 1 2 0 0\np 2 2 1 1\nsent 3\n";
+    let plain = "result 24 4 4\np 0 2 0 0\np 1 2 0 0\np 2 2 1 1\nsent 3\nstopped 0\n";
     says(&["run", "--plain"], "w-echo-twice.bundle", 1, plain, "");
 }
 
@@ -142,10 +142,10 @@ step    board  rule  from -> to           receives             sends   has type 
 
 #[test]
 fn trace_for_programs_has_the_translated_source() {
-    let start = "start 1 1 1\nstep 0 0 3 255 255 255\np 0 2 0 0\nsent 1\nstep 1 1 3 255 255 255\np 1 2 0 0\nsent 2\n";
-    let message = "step 2 2 3 0 0 0\np 2 2 1 0\nsent 3\nstep 3 2 4 0 3 1\np 2 2 1 1\nsent 3\n";
+    let start = "start 1 1 1\nstep 0 0 3 255 255 255\np 0 2 0 0\nsent 1\nstopped 0\nstep 1 1 3 255 255 255\np 1 2 0 0\nsent 2\nstopped 0\n";
+    let message = "step 2 2 3 0 0 0\np 2 2 1 0\nsent 3\nstopped 0\nstep 3 2 4 0 3 1\np 2 2 1 1\nsent 3\nstopped 0\n";
     let counting = message.replace("step 3 2 4 0 3 1", "step 3 2 4 0 1 3");
-    let accepts = "p 2 3 2 1\nsent 3\n";
+    let accepts = "p 2 3 2 1\nsent 3\nstopped 0\n";
     let all = format!("result 0 0 5\n{start}{message}step 4 2 5 0 1 0\n{accepts}");
     says(&["trace", "--plain"], "w.bundle", 0, &all, "");
     let all = format!("result 0 0 5\n{start}{counting}step 4 2 5 0 0 1\n{accepts}");
@@ -156,18 +156,23 @@ start 1 1 1
 step 0 0 3 255 255 255
 p 0 2 0
 sent 1
+stopped 0
 step 1 1 3 255 255 255
 p 1 2 0
 sent 2
+stopped 0
 step 2 2 3 0 0 0
 p 2 2 1
 sent 3
+stopped 0
 step 3 2 4 0 0 1
 p 2 2 2
 sent 3
+stopped 0
 step 4 2 5 0 0 2
 p 2 3 3
 sent 3
+stopped 0
 ";
     says(&["trace", "--plain"], "w-plain.bundle", 0, plain, "");
     let all = format!("result 24 4 4\n{start}{message}");
@@ -188,7 +193,11 @@ fn trace_of_two_types_has_their_counts_apart() {
     let words = ["--plain".into(), "trace".into(), example("ready.bundle").into_os_string()];
     let plain = asked(&words);
     assert_eq!(plain.status.code(), Some(0));
-    assert!(text(&plain.stdout).ends_with("step 21 0 7 1 1 6\np 0 4 4 1 3 2\nsent 4 3\n"), "{}", text(&plain.stdout));
+    assert!(
+        text(&plain.stdout).ends_with("step 21 0 7 1 1 6\np 0 4 4 1 3 2\nsent 4 3\nstopped 0\n"),
+        "{}",
+        text(&plain.stdout)
+    );
 }
 
 #[test]

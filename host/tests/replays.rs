@@ -100,7 +100,7 @@ fn a_replay_shows_what_run_shows() {
         assert_eq!(of("echo-twice.log"), by("w-echo-twice.bundle").replace("in step 2\"]", more));
     }
     // No lines leave the starts.
-    is(&replayed(&["--plain"], b""), 0, "result 0 0 0\np 0 1 0 0\np 1 1 0 0\np 2 1 0 0\nsent 0\n", "");
+    is(&replayed(&["--plain"], b""), 0, "result 0 0 0\np 0 1 0 0\np 1 1 0 0\np 2 1 0 0\nsent 0\nstopped 0\n", "");
 }
 
 #[test]
@@ -609,11 +609,11 @@ fn each_byte_may_come_alone() {
     assert_eq!(following.rows(1), "start 1 1 1\n");
     let trace = given(&["trace", "-", "--plain"], &bytes("w.bundle")).stdout;
     let lines: Vec<&str> = text(&trace).split_inclusive('\n').skip(2).collect();
-    for (line, rows) in W.split_inclusive('\n').zip(lines.chunks(3)) {
+    for (line, rows) in W.split_inclusive('\n').zip(lines.chunks(4)) {
         for at in 0..line.len() {
             following.send(&line[at..=at]);
         }
-        assert_eq!(following.rows(3), rows.concat());
+        assert_eq!(following.rows(4), rows.concat());
     }
     assert_eq!(following.ends_with_its_input(), ("result 0 0 5\n".to_string(), String::new(), Some(0)));
 }
@@ -655,7 +655,7 @@ fn it_ends_at_a_line_of_another_shape_while_the_writer_stays_open() {
     let mut following = Following::of("w-empty.bundle", &["--plain"]);
     following.send("board 0 rule 3\nboard 1 rulee");
     let (rows, told, status) = following.ends_by_itself();
-    assert!(rows.ends_with("sent 1\nresult 50 1 0\n"), "{rows}");
+    assert!(rows.ends_with("sent 1\nstopped 0\nresult 50 1 0\n"), "{rows}");
     assert_eq!((&*told, status), ("", Some(1)));
 }
 
@@ -672,10 +672,10 @@ fn a_refused_bundle_is_told_before_any_line() {
 fn a_line_too_many_ends_it() {
     let mut following = Following::of("w-empty.bundle", &["--plain"]);
     following.send("board 0 rule 3\n");
-    following.rows(4);
+    following.rows(5);
     for _ in 1..4_096 {
         following.send("board 0 rule 4\n");
-        following.rows(3);
+        following.rows(4);
     }
     // Whatever it would be.
     following.send("b");
@@ -705,7 +705,7 @@ fn a_later_line_may_change_the_answer_of_the_whole_log() {
     let log = W.replace("from 1", "from 0") + "nonsense\n";
     let [come, whole] =
         [&["--follow", "--plain"][..], &["--trace", "--plain"]].map(|words| replayed(words, log.as_bytes()));
-    assert!(text(&come.stdout).ends_with("sent 3\nresult 24 4 4\n"), "{}", text(&come.stdout));
+    assert!(text(&come.stdout).ends_with("sent 3\nstopped 0\nresult 24 4 4\n"), "{}", text(&come.stdout));
     assert_eq!(text(&whole.stdout), "result 50 5 0\n");
     assert_eq!((come.status.code(), whole.status.code()), (Some(1), Some(1)));
 }

@@ -25,7 +25,7 @@ fn the_report_program_agrees_with_the_model() {
         assert!(seen.contains(&(refusal.to_string(), None)), "no bundle was refused with {refusal}: {seen:?}");
     }
     for form in Form::ALL {
-        for refusal in ["0", "20", "21", "22", "23", "24", "25"] {
+        for refusal in ["0", "20", "21", "22", "23", "24", "25", "26", "27"] {
             let seen_there = seen.contains(&(refusal.to_string(), Some(form)));
             assert!(seen_there, "no bundle of {} form was answered with {refusal}: {seen:?}", form.name());
         }

@@ -124,6 +124,9 @@ fn any_step(dice: &mut Dice, bundle: &Bundle, number: u8) -> Step {
     if number < 22 || number == 23 {
         return bundles::wild(dice, bundle);
     }
+    if number == 27 || number == 26 && dice.once_in(2) {
+        return Step::stop(dice.below(bundle.correct()) as u8);
+    }
     let silent = dice.once_in(3);
     let (kind, source) = (dice.below(bundle.table.types) as u8, dice.below(bundle.sources()) as u8);
     Step {
@@ -137,9 +140,10 @@ fn any_step(dice: &mut Dice, bundle: &Bundle, number: u8) -> Step {
 #[test]
 fn a_refused_step_is_told_with_the_figures_of_the_model() {
     let mut seen = BTreeMap::new();
-    for seed in 1..=1_500 {
+    for seed in 1..=2_000 {
         let dice = &mut Dice::new(seed);
-        let number = 20 + (seed % 6) as u8;
+        // Those of 24 are of two kinds, of which one is rare.
+        let number = [20, 21, 22, 23, 24, 24, 24, 25, 26, 27][seed as usize % 10];
         if let Some(Refused { bytes, bundle, before, step }) = refused_with(dice, number) {
             let place = bundle.steps.len() as u32 - 1;
             let command = ["run", "trace", "first", "translate"][dice.below(4)];
@@ -148,13 +152,14 @@ fn a_refused_step_is_told_with_the_figures_of_the_model() {
                 true => "no message".to_string(),
                 false => format!("type {}, source {}", step.kind, step.source),
             };
-            assert_eq!(lines[0], format!("that step is board {}, rule {}, {message}", step.board, step.rule));
+            let stop = if step.rule == 254 { " (a stop)" } else { "" };
+            assert_eq!(lines[0], format!("that step is board {}, rule {}{stop}, {message}", step.board, step.rule));
             explains(&bundle, &before, step, number, &lines[1..]);
             let again = lines[1].contains(" already, in step");
             *seen.entry((number, again, bundle.form)).or_insert(0) += 1;
         }
     }
-    let kinds = (20..=25).map(|number| (number, false)).chain([(24, true)]);
+    let kinds = (20..=27).map(|number| (number, false)).chain([(24, true)]);
     for (number, again) in kinds {
         for form in Form::ALL {
             let times = seen.get(&(number, again, form));
@@ -176,6 +181,22 @@ fn explains(bundle: &Bundle, left: &Configuration, step: Step, number: u8, lines
             let (state, from) = (left.states[usize::from(p)], bundle.table.rules[r].from);
             assert_ne!(state, from);
             one(format!("board {p} is in state {state}, rule {r} leaves state {from}"));
+        }
+        23 if step.rule == 254 => one("a stop has neither type nor source, which are both 255 then".to_string()),
+        26 => {
+            let stops = |other: &Step| (other.board, other.rule) == (p, 254);
+            assert!(left.stopped.contains(&usize::from(p)));
+            one(format!("board {p} has lost power in step {}", bundle.steps.iter().position(stops).expect("its stop")));
+        }
+        27 => {
+            let (t, f, stopped) = (bundle.t, bundle.f, left.stopped.len());
+            assert_eq!(t, f + stopped);
+            let boards = match stopped {
+                0 => "no board is".to_string(),
+                1 => "1 board is".to_string(),
+                _ => format!("{stopped} boards are"),
+            };
+            one(format!("t = {t}, f = {f}, and {boards} stopped already"));
         }
         23 => {
             let (types, sources) = (counted(types, "type"), counted(bundle.sources(), "source"));
@@ -639,7 +660,7 @@ fn plain_trace(bytes: &[u8]) -> (String, Vec<String>) {
     let all = output(&["trace", "--plain", "-"], bytes);
     let lines: Vec<&str> = all.split_inclusive('\n').collect();
     let (head, steps) = lines.split_at(lines.len().min(2));
-    (head.concat(), steps.chunks(3).map(|step| step.concat()).collect())
+    (head.concat(), steps.chunks(4).map(|step| step.concat()).collect())
 }
 
 #[test]
@@ -701,9 +722,15 @@ fn as_run(json: &Json) -> String {
     if json.has("states") {
         let boards = json.get("states").list().iter().zip(json.get("received").list()).enumerate();
         lines.extend(boards.map(|(p, (state, received))| format!("p {p}{}{}\n", state.flat(), received.flat())));
-        lines += &format!("sent{}\n", json.get("sent").flat());
+        lines += &format!("sent{}\nstopped {}\n", json.get("sent").flat(), stopped(json));
     }
     lines
+}
+
+// The word of the boards that are stopped.
+fn stopped(json: &Json) -> u64 {
+    let boards = json.get("stopped").flat();
+    boards.split_whitespace().map(|board| 1 << board.parse::<u64>().expect("a board")).sum()
 }
 
 fn as_trace(json: &Json) -> String {
@@ -713,7 +740,7 @@ fn as_trace(json: &Json) -> String {
         for step in json.get("steps").list() {
             let record = step.named(&["step", "board", "rule", "type", "source", "translated"]);
             let after = step.named(&["board", "state", "received"]);
-            lines += &format!("step{record}\np{after}\nsent{}\n", step.get("sent").flat());
+            lines += &format!("step{record}\np{after}\nsent{}\nstopped {}\n", step.get("sent").flat(), stopped(step));
         }
     }
     lines
@@ -793,7 +820,7 @@ fn json_by_example() {
     let w = example("w.bundle");
     let run =
         "{\"refusal\":0,\"place\":0,\"accepted\":5,\"form\":\"message\",\"n\":4,\"t\":1,\"f\":1,\"states\":[2,2,3],\
-               \"received\":[[[0,0]],[[0,0]],[[2,1]]],\"sent\":[3],\
+               \"received\":[[[0,0]],[[0,0]],[[2,1]]],\"sent\":[3],\"stopped\":[],\
                \"received_from\":[[[]],[[]],[[0,1,3]]],\"sent_by\":[[0,1,2]]}\n";
     assert_eq!(output(&["run", "--json", "-"], &w), run);
     let first = "{\"refusal\":0,\"place\":0,\"form\":\"message\",\"n\":4,\"t\":1,\"f\":1,\

@@ -86,9 +86,11 @@ budget 100000000
 step 2 1 4 0 0 1
 p 1 2 2 0
 sent 2
+stopped 0
 step 3 1 5 0 1 3
 p 1 3 2 1
 sent 2
+stopped 0
 ";
     is(&searched(&["--depth", "2", "--plain"], &begun), 0, plain, "");
 }
@@ -197,7 +199,7 @@ fn what_is_found_is_kept_as_a_bundle() {
     is(&got, 0, text(&shown.stdout), &format!("wrote 31 bytes to {path}: a bundle in counting form with 5 steps\n"));
     let made = fs::read(&out).expect("the bundle");
     let run = given(&["run", "-", "--plain"], &made);
-    is(&run, 0, "result 0 0 5\np 0 3 2 1\np 1 2 0 0\np 2 1 0 0\nsent 2\n", "");
+    is(&run, 0, "result 0 0 5\np 0 3 2 1\np 1 2 0 0\np 2 1 0 0\nsent 2\nstopped 0\n", "");
     // Nothing found, nothing written: the file stays.
     let nothing = format!("nothing was found, and nothing is written to '{path}'\n");
     for budget in ["540", "539"] {

@@ -1,6 +1,7 @@
 //! Two neighbouring steps exchanged. A trace has its sign where the model accepts both from the configuration before them and they are
 //! of different boards; exchanged, these leave every answer of the library as it was. Any others of different boards are refused
-//! with 24. `SWAPS=n` tries more than 6,000.
+//! with 24. Of two stops where one more is allowed, the second is refused with 27 in either order, and has no line. `SWAPS=n` tries more
+//! than 6,000.
 
 mod start;
 
@@ -9,7 +10,7 @@ use judge::makers::bundles;
 use judge::model::{read, Bundle, Configuration, Model, Outline};
 use judge::{Bench, Library};
 use macaroosh::calls::{Answer, First, Step};
-use macaroosh::{Form, Refusal, ECHO, MOST_WORDS};
+use macaroosh::{Form, Refusal, ECHO, MOST_WORDS, STOP};
 use start::given;
 use std::collections::BTreeMap;
 use std::fs;
@@ -61,7 +62,7 @@ impl Listing {
 
     // The type that a step sends, if it sends a new one.
     fn sends(&self, step: Step) -> Option<usize> {
-        self.bundle.sends(&self.bundle.table.rules[usize::from(step.rule)])
+        self.bundle.rule(step).and_then(|rule| self.bundle.sends(rule))
     }
 
     // The bytes with a line and the one above it exchanged.
@@ -117,8 +118,13 @@ fn kinds(listing: &Listing) -> Vec<(Form, &'static str)> {
     let signs = right(listing);
     let kind = |(line, first, second): (usize, Step, Step)| match first.board == second.board {
         true => "of one board",
-        false if signs[line] => "exchanged",
-        false => "heard",
+        false if !signs[line] => "heard",
+        false => match (first.rule, second.rule) {
+            (STOP, STOP) => "two stops",
+            (STOP, _) => "after a stop",
+            (_, STOP) => "before a stop",
+            _ => "exchanged",
+        },
     };
     listing.pairs().map(|pair| (listing.bundle.form, kind(pair))).collect()
 }
@@ -130,6 +136,9 @@ fn all_seen(kinds: Vec<Vec<(Form, &'static str)>>, times: usize) {
     for form in Form::ALL {
         for kind in ["exchanged", "heard", "of one board"] {
             assert!(seen.get(&(form, kind)) >= Some(&times), "{kind}, {} form: {seen:?}", form.name());
+        }
+        for kind in ["two stops", "after a stop", "before a stop"] {
+            assert!(seen.get(&(form, kind)) >= Some(&(times / 10)), "{kind}, {} form: {seen:?}", form.name());
         }
     }
 }
@@ -178,6 +187,24 @@ fn one_boards_own_steps_exchanged_are_refused_for_other_reasons_too() {
     }
     assert!(seen.keys().all(|number| [22, 24, 25].contains(number)), "{seen:?}");
     assert!([22, 25].iter().all(|number| seen.get(number) >= Some(&10)), "{seen:?}");
+}
+
+// Both are accepted by themselves, and neither after the other.
+#[test]
+fn two_stops_where_one_more_is_allowed_are_not_exchanged() {
+    let of = |steps: &[Step]| bundles::closed(&[1; 7], steps, 7, [7, 2, 0, 0]);
+    let run = |steps: &[Step]| Library.run(&of(steps), &ECHO, &mut [0; MOST_WORDS]);
+    let [zero, one, two] = [0, 1, 2].map(Step::stop);
+    for last in [one, two] {
+        assert_eq!(run(&[zero, last]), Answer { refusal: 0, place: 0, count: 2 });
+    }
+    for [second, third] in [[one, two], [two, one]] {
+        assert_eq!(run(&[zero, second, third]), Answer { refusal: 27, place: 2, count: 2 });
+        // The two lines before it may be exchanged, and it has none.
+        let shown = shown(&[], &of(&[zero, second, third]));
+        assert_eq!(shown, [(0, false), (1, true)]);
+        assert_eq!(told(&["trace", "-"], &of(&[zero, second, third])), shown);
+    }
 }
 
 // ---- the program
@@ -324,7 +351,7 @@ fn on_the_line_above(listing: &Listing) -> Vec<bool> {
 
 #[test]
 fn every_broken_sign_is_caught() {
-    let broken: [(&str, Signs); 12] = [
+    let broken: [(&str, Signs); 15] = [
         ("also two lines of one board", |l| l.signs(|line, _, second| l.accepts(line - 1, second))),
         ("also where the other is heard", |l| l.signs(|_, first, second| first.board != second.board)),
         ("the configuration after the first step", |l| accepted_from(l, 0)),
@@ -338,6 +365,9 @@ fn every_broken_sign_is_caught() {
         ("not where a message is in both", |l| also(l, |first, second| first.silent() || second.silent())),
         ("by senders that a translation chooses", by_senders),
         ("no line in two pairs", one_pair_a_line),
+        ("not above a stop", |l| also(l, |_, second| second.rule != STOP)),
+        ("not below a stop", |l| also(l, |first, _| first.rule != STOP)),
+        ("not where both stop", |l| also(l, |first, second| (first.rule, second.rule) != (STOP, STOP))),
         ("none in a schedule that is refused", |l| also(l, |_, _| l.reached.len() > l.bundle.steps.len())),
     ];
     for (name, signs) in broken {

@@ -176,7 +176,7 @@ fn logs_are_answered_as_by_the_raw_call() {
         replays_alike(&bundle, &standing, &log)
     };
     let refusals: BTreeSet<u8> = each_seed(seeds("SEEDS", SEEDS), asked).concat().into_iter().collect();
-    let expected: BTreeSet<u8> = (0..=14).chain(20..=25).chain([30, 50, 51, 52]).collect();
+    let expected: BTreeSet<u8> = (0..=14).chain(20..=27).chain([30, 50, 51, 52]).collect();
     assert_eq!(refusals, expected);
 }
 
@@ -219,7 +219,7 @@ fn searches_are_answered_as_by_the_raw_call() {
         searches_alike(&search, dice.below(2_000) as u64)
     };
     let seen: BTreeSet<(u8, u32)> = each_seed(seeds("SEEDS", SEEDS), asked).concat().into_iter().collect();
-    let refusals = (1..=14).chain(20..=25).chain([30, 34, 35]).map(|number| (number, 0));
+    let refusals = (1..=14).chain(20..=27).chain([30, 34, 35]).map(|number| (number, 0));
     let outcomes = (0..=8).chain([NONE, SPENT]).map(|outcome| (0, outcome));
     assert_eq!(seen, refusals.chain(outcomes).collect());
 }
@@ -291,7 +291,8 @@ fn lines(left: &Configuration) -> String {
         format!("p {board} {}{counts}\n", left.state(board).expect("a board that is there"))
     };
     let sent: String = (0..types).map(|kind| known(left.sent(kind))).collect();
-    format!("{}sent{sent}\n", (0..boards).map(board).collect::<String>())
+    let stopped: u64 = (0..boards).map(|p| u64::from(left.stopped(p).expect("a board that is there")) << p).sum();
+    format!("{}sent{sent}\nstopped {stopped}\n", (0..boards).map(board).collect::<String>())
 }
 
 #[test]
@@ -316,6 +317,7 @@ fn what_is_not_there_has_no_count() {
     // Board 3 is faulty, so that it has no state.
     for board in [3, 4, 255] {
         assert_eq!((left.state(board), left.correct(board, 0), left.received(board, 0)), (None, None, None));
+        assert_eq!(left.stopped(board), None);
     }
     for kind in [1, 255] {
         assert_eq!((left.faulty(0, kind), left.received(0, kind), left.sent(kind)), (None, None, None));
@@ -387,9 +389,9 @@ fn a_log_makes_a_bundle_and_its_run() {
     assert_eq!((before.bundle.len(), before.run.steps, before.run.configuration.state(2)), (31, 4, Some(2)));
     assert_eq!(run(&before.bundle, &ECHO).expect_err("the same").before, Some(before.run));
     // With lent memory nothing is allocated.
-    let (mut out, mut words) = ([0; 31], [0; 7]);
+    let (mut out, mut words) = ([0; 31], [0; 8]);
     assert_eq!(replay_into(&without_steps(W), &ECHO, log, &mut out, &mut words), Ok(5));
-    assert_eq!((out, words), (*W, [2, 2, 3, 0, 0, 0b1011, 0b111]));
+    assert_eq!((out, words), (*W, [2, 2, 3, 0, 0, 0b1011, 0b111, 0]));
 }
 
 #[test]

@@ -135,7 +135,7 @@ fn clears_another_type(bundle: &Bundle, left: &mut Configuration, step: Step) {
 }
 
 fn sends_another_type(bundle: &Bundle, left: &mut Configuration, step: Step) {
-    if let Some(sent) = bundle.sends(&bundle.table.rules[usize::from(step.rule)]) {
+    if let Some(sent) = bundle.rule(step).and_then(|rule| bundle.sends(rule)) {
         left.sent[(sent + 1) % bundle.table.types] = left.sent[sent].clone();
     }
 }

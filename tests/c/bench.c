@@ -1,7 +1,7 @@
 /* The header from C: schedule W is run in each form, translated there and back and to each form, and asked for its first step,
  * as is a run that is quiet; the echo table is drawn and read back, and moved to the second edition and back; W's log is replayed;
- * a table with divisors is used and drawn; schedules are searched for; refusals leave lent memory alone. The last line is 'N passed,
- * M failed'. */
+ * a table with divisors is used and drawn; schedules are searched for; a board stops; refusals leave lent memory alone. The last line
+ * is 'N passed, M failed'. */
 #include "macaroosh.h"
 
 #include <stdio.h>
@@ -104,19 +104,19 @@ static int answers(uint64_t packed, unsigned refusal, uint32_t place, uint32_t c
 }
 
 static void runs(void) {
-    static const uint64_t message_words[] = {2, 2, 3, 0, 0, 11, 7, 99};
-    static const uint64_t counting_words[] = {2, 2, 3, 0, 0, 0, 0, 2, 1, 3, 99};
-    static const uint64_t plain_words[] = {2, 2, 3, 0, 0, 3, 3, 99};
+    static const uint64_t message_words[] = {2, 2, 3, 0, 0, 11, 7, 0, 99};
+    static const uint64_t counting_words[] = {2, 2, 3, 0, 0, 0, 0, 2, 1, 3, 0, 99};
+    static const uint64_t plain_words[] = {2, 2, 3, 0, 0, 3, 3, 0, 99};
     uint64_t words[MACAROOSH_MOST_WORDS];
     size_t i;
     for (i = 0; i < MACAROOSH_MOST_WORDS; i++) words[i] = 99;
     check("W runs", answers(macaroosh_run(w, sizeof w, echo, sizeof echo, words, MACAROOSH_MOST_WORDS), 0, 0, 5));
     check("W's words, and none past them", memcmp(words, message_words, sizeof message_words) == 0);
     for (i = 0; i < MACAROOSH_MOST_WORDS; i++) words[i] = 99;
-    check("W in counting form runs", answers(macaroosh_run(counting, sizeof counting, echo, sizeof echo, words, 10), 0, 0, 5));
+    check("W in counting form runs", answers(macaroosh_run(counting, sizeof counting, echo, sizeof echo, words, 11), 0, 0, 5));
     check("its words, and none past them", memcmp(words, counting_words, sizeof counting_words) == 0);
     for (i = 0; i < MACAROOSH_MOST_WORDS; i++) words[i] = 99;
-    check("W in plain form runs", answers(macaroosh_run(plain, sizeof plain, echo, sizeof echo, words, 7), 0, 0, 5));
+    check("W in plain form runs", answers(macaroosh_run(plain, sizeof plain, echo, sizeof echo, words, 8), 0, 0, 5));
     check("its words, and none past them", memcmp(words, plain_words, sizeof plain_words) == 0);
 }
 
@@ -218,18 +218,18 @@ static void drawings(void) {
 
 /* Lent to replays: as many bytes as W has and a few words, with more behind each. */
 static uint8_t made[sizeof w + 4];
-static uint64_t left[9];
+static uint64_t left[10];
 
 static void lend(void) {
     size_t i;
     memset(made, 0xAA, sizeof made);
-    for (i = 0; i < 9; i++) left[i] = 99;
+    for (i = 0; i < 10; i++) left[i] = 99;
 }
 
 /* Whether nothing of what was lent has changed. */
 static int untouched(void) {
     size_t i;
-    for (i = 0; i < 9; i++) {
+    for (i = 0; i < 10; i++) {
         if (left[i] != 99) return 0;
     }
     return all(made, sizeof made, 0xAA);
@@ -242,53 +242,53 @@ static uint64_t replay(const char *log, size_t length, size_t out_length, size_t
 }
 
 static void logs(void) {
-    static const uint64_t w_words[] = {2, 2, 3, 0, 0, 11, 7, 99, 99}, twice_words[] = {2, 2, 2, 0, 0, 9, 7, 99, 99};
-    static const uint64_t start_words[] = {1, 1, 1, 0, 0, 0, 0, 99, 99};
+    static const uint64_t w_words[] = {2, 2, 3, 0, 0, 11, 7, 0, 99, 99}, twice_words[] = {2, 2, 2, 0, 0, 9, 7, 0, 99, 99};
+    static const uint64_t start_words[] = {1, 1, 1, 0, 0, 0, 0, 0, 99, 99};
     const size_t length = sizeof service_log - 1;
     char log[sizeof service_log];
     lend();
-    check("30 bytes are too few for a replay", answers(replay(service_log, length, 30, 7), 30, 0, 0));
-    check("six words are too few for it", answers(replay(service_log, length, sizeof made, 6), 30, 0, 0));
-    check("the last line has no line feed", answers(replay(service_log, length - 1, sizeof made, 9), 50, 4, 0));
-    check("the second line ends too early", answers(replay(service_log, 20, sizeof made, 9), 50, 1, 0));
+    check("30 bytes are too few for a replay", answers(replay(service_log, length, 30, 8), 30, 0, 0));
+    check("seven words are too few for it", answers(replay(service_log, length, sizeof made, 7), 30, 0, 0));
+    check("the last line has no line feed", answers(replay(service_log, length - 1, sizeof made, 10), 50, 4, 0));
+    check("the second line ends too early", answers(replay(service_log, 20, sizeof made, 10), 50, 1, 0));
     memcpy(log, service_log, sizeof log);
     log[20] = '0';
-    check("a line is of another shape", answers(replay(log, length, sizeof made, 9), 50, 1, 0));
-    check("W has steps", answers(macaroosh_replay(w, sizeof w, echo, sizeof echo, NULL, 0, made, sizeof made, left, 9), 52, 0, 0));
+    check("a line is of another shape", answers(replay(log, length, sizeof made, 10), 50, 1, 0));
+    check("W has steps", answers(macaroosh_replay(w, sizeof w, echo, sizeof echo, NULL, 0, made, sizeof made, left, 10), 52, 0, 0));
     check("bytes and words stay", untouched());
-    check("W's log is replayed", answers(replay(service_log, length, sizeof made, 9), 0, 0, 5));
+    check("W's log is replayed", answers(replay(service_log, length, sizeof made, 10), 0, 0, 5));
     check("to W, and no byte past it", memcmp(made, w, sizeof w) == 0 && all(made + sizeof w, sizeof made - sizeof w, 0xAA));
     check("with W's words, and none past them", memcmp(left, w_words, sizeof left) == 0);
     lend();
     memcpy(log, service_log, sizeof log);
     log[length - 2] = '0';
-    check("a log with an echo twice", answers(replay(log, length, sizeof made, 9), 24, 4, 4));
+    check("a log with an echo twice", answers(replay(log, length, sizeof made, 10), 24, 4, 4));
     check("makes the whole bundle", memcmp(made, w, 22) == 0 && made[22] == 0 && memcmp(made + 23, w + 23, 8) == 0);
     check("and leaves the words after four steps", memcmp(left, twice_words, sizeof left) == 0);
     lend();
-    check("a log of nothing", answers(replay(NULL, 0, sizeof without_steps, 7), 0, 0, 0));
+    check("a log of nothing", answers(replay(NULL, 0, sizeof without_steps, 8), 0, 0, 0));
     check("makes the same bundle", memcmp(made, without_steps, sizeof without_steps) == 0 && made[sizeof without_steps] == 0xAA);
     check("and leaves the starts", memcmp(left, start_words, sizeof left) == 0);
 }
 
 static void divisors(void) {
-    static const uint64_t accepts[] = {2, 2, 3, 1, 0, 0, 23, 0, 7, 99}, before[] = {2, 2, 2, 1, 0, 0, 19, 0, 7, 99};
+    static const uint64_t accepts[] = {2, 2, 3, 1, 0, 0, 23, 0, 7, 0, 99}, before[] = {2, 2, 2, 1, 0, 0, 19, 0, 7, 0, 99};
     const size_t length = sizeof majority_drawing - 1;
     uint8_t table[sizeof majority], text[MACAROOSH_MOST_DRAWING], back[MACAROOSH_MOST_TABLE];
-    uint64_t words[] = {99, 99, 99, 99, 99, 99, 99, 99, 99, 99};
+    uint64_t words[] = {99, 99, 99, 99, 99, 99, 99, 99, 99, 99, 99};
     memcpy(table, majority, sizeof table);
     memset(text, 0xAA, sizeof text);
     memset(back, 0xAA, sizeof back);
     check("four of five accept",
-          answers(macaroosh_run(four_of_five, sizeof four_of_five, table, sizeof table, words, 10), 0, 0, 7));
+          answers(macaroosh_run(four_of_five, sizeof four_of_five, table, sizeof table, words, 11), 0, 0, 7));
     check("with their words", memcmp(words, accepts, sizeof words) == 0);
     /* Rule 5 without its divisor asks for n + t + 1. */
     table[43] = 1;
     check("not without the divisor",
-          answers(macaroosh_run(four_of_five, sizeof four_of_five, table, sizeof table, words, 10), 25, 6, 6));
+          answers(macaroosh_run(four_of_five, sizeof four_of_five, table, sizeof table, words, 11), 25, 6, 6));
     check("with the words before that step", memcmp(words, before, sizeof words) == 0);
     table[43] = 9;
-    check("a divisor of 9", answers(macaroosh_run(four_of_five, sizeof four_of_five, table, sizeof table, words, 10), 9, 5, 0));
+    check("a divisor of 9", answers(macaroosh_run(four_of_five, sizeof four_of_five, table, sizeof table, words, 11), 9, 5, 0));
     check("nor is it drawn", answers(macaroosh_draw(table, sizeof table, text, sizeof text), 9, 5, 0));
     check("words and text stay", memcmp(words, before, sizeof words) == 0 && all(text, sizeof text, 0xAA));
     check("divisors are drawn", answers(macaroosh_draw(majority, sizeof majority, text, sizeof text), 0, 0, (uint32_t)length));
@@ -300,8 +300,8 @@ static void divisors(void) {
 
 static void editions(void) {
     uint8_t second[sizeof majority], table[MACAROOSH_MOST_TABLE], back[sizeof echo + 2];
-    uint64_t words[8] = {99, 99, 99, 99, 99, 99, 99, 99};
-    static const uint64_t w_words[] = {2, 2, 3, 0, 0, 11, 7, 99};
+    uint64_t words[9] = {99, 99, 99, 99, 99, 99, 99, 99, 99};
+    static const uint64_t w_words[] = {2, 2, 3, 0, 0, 11, 7, 0, 99};
     /* It is the table with divisors where those of rules 2 and 5 are 1, over the echo table's sums. */
     memcpy(second, majority, sizeof second);
     memcpy(second + 22, "\x01\xFF\x00\x01", 4);
@@ -317,7 +317,7 @@ static void editions(void) {
     check("the echo table is moved", answers(macaroosh_to_second(echo, sizeof echo, table, sizeof table), 0, 0, sizeof second));
     check("to the byte, and none past it",
           memcmp(table, second, sizeof second) == 0 && all(table + sizeof second, sizeof table - sizeof second, 0xAA));
-    check("W runs beside it", answers(macaroosh_run(w, sizeof w, table, sizeof second, words, 8), 0, 0, 5));
+    check("W runs beside it", answers(macaroosh_run(w, sizeof w, table, sizeof second, words, 9), 0, 0, 5));
     check("to its words", memcmp(words, w_words, sizeof words) == 0);
     check("50 bytes are too few for the first edition", answers(macaroosh_to_first(table, sizeof second, back, 50), 30, 0, 0));
     check("a divisor is not 1", answers(macaroosh_to_first(majority, sizeof majority, back, sizeof back), 32, 2, 0));
@@ -375,12 +375,47 @@ static void searches(void) {
     check("without a try", tried == 0);
 }
 
+/* Four boards that have an echo to send, t = 1, f = 0, with so many of these steps: board 0 sends, and then stops. */
+static const uint8_t until_stopped[] = {0x00, 0x03, 0xFF, 0xFF, 0x00, 0xFE, 0xFF, 0xFF};
+
+/* Runs that in a form, with a last step, in ten words, as many as message and plain form need. */
+static uint64_t stops(uint8_t count, const char *last, uint8_t form) {
+    uint8_t bundle[4 + sizeof until_stopped + 4 + 8] = {1, 1, 1, 1};
+    const uint8_t steps = (uint8_t)(4 * (count + 1));
+    const uint8_t trailer[] = {steps, 0, (uint8_t)(steps + 4), 0, 4, 1, 0, form};
+    size_t i;
+    memcpy(bundle + 4, until_stopped, 4 * (size_t)count);
+    memcpy(bundle + 4 * (size_t)count + 4, last, 4);
+    memcpy(bundle + 4 + steps, trailer, 8);
+    for (i = 0; i < 10; i++) left[i] = 99;
+    return macaroosh_run(bundle, 12 + (size_t)steps, echo, sizeof echo, left, 10);
+}
+
+static void stopped_boards(void) {
+    static const char stop_0[] = "\x00\xFE\xFF\xFF", stop_1[] = "\x01\xFE\xFF\xFF";
+    static const uint64_t sent[] = {2, 1, 1, 1, 0, 0, 0, 0, 1, 0}, after[] = {2, 1, 1, 1, 0, 0, 0, 0, 1, 1};
+    static const uint64_t heard[] = {2, 2, 1, 1, 0, 1, 0, 0, 3, 1};
+    check("a board stops", answers(stops(1, stop_0, MACAROOSH_MESSAGE), 0, 0, 2));
+    check("and the last word alone changes", memcmp(left, after, sizeof left) == 0);
+    check("the same in plain form", answers(stops(1, stop_0, MACAROOSH_PLAIN), 0, 0, 2) && memcmp(left, after, sizeof left) == 0);
+    check("what it has sent is heard", answers(stops(2, "\x01\x03\x00\x00", MACAROOSH_MESSAGE), 0, 0, 3));
+    check("and it stays stopped", memcmp(left, heard, sizeof left) == 0);
+    check("it stops once", answers(stops(2, stop_0, MACAROOSH_MESSAGE), 26, 2, 2));
+    check("and takes no step", answers(stops(2, "\x00\x04\xFF\xFF", MACAROOSH_MESSAGE), 26, 2, 2));
+    check("not even by no rule", answers(stops(2, "\x00\x07\xFF\xFF", MACAROOSH_PLAIN), 26, 2, 2));
+    check("the words are those before", memcmp(left, after, sizeof left) == 0);
+    check("no second board may stop", answers(stops(2, stop_1, MACAROOSH_MESSAGE), 27, 2, 2));
+    check("the words are those of the first alone", memcmp(left, after, sizeof left) == 0);
+    check("a stop has no message", answers(stops(1, "\x00\xFE\x00\x00", MACAROOSH_MESSAGE), 23, 1, 1));
+    check("and stops nobody then", memcmp(left, sent, sizeof left) == 0);
+}
+
 /* NULL where the length is 0: no bundle, no standing table, nothing lent. */
 static void nothing_lent(void) {
-    uint64_t words[7] = {9, 9, 9, 9, 9, 9, 9};
+    uint64_t words[8] = {9, 9, 9, 9, 9, 9, 9, 9};
     uint8_t out[sizeof w];
-    check("no bundle at all", answers(macaroosh_run(NULL, 0, echo, sizeof echo, words, 7), 10, 0, 0));
-    check("no standing table at all", answers(macaroosh_run(w, sizeof w, NULL, 0, words, 7), 1, 0, 0));
+    check("no bundle at all", answers(macaroosh_run(NULL, 0, echo, sizeof echo, words, 8), 10, 0, 0));
+    check("no standing table at all", answers(macaroosh_run(w, sizeof w, NULL, 0, words, 8), 1, 0, 0));
     check("no words at all", answers(macaroosh_run(w, sizeof w, echo, sizeof echo, NULL, 0), 30, 0, 0));
     check("nothing to translate", answers(macaroosh_translate(NULL, 0, NULL, 0, out, sizeof out), 10, 0, 0));
     check("nowhere to write", answers(macaroosh_translate(w, sizeof w, echo, sizeof echo, NULL, 0), 30, 0, 0));
@@ -392,7 +427,7 @@ static void nothing_lent(void) {
     check("nothing to move", answers(macaroosh_to_second(NULL, 0, out, sizeof out), 1, 0, 0));
     check("nothing to move back", answers(macaroosh_to_first(NULL, 0, out, sizeof out), 1, 0, 0));
     check("nowhere to move", answers(macaroosh_to_second(echo, sizeof echo, NULL, 0), 30, 0, 0));
-    check("nothing to replay over", answers(macaroosh_replay(NULL, 0, NULL, 0, NULL, 0, out, sizeof out, words, 7), 10, 0, 0));
+    check("nothing to replay over", answers(macaroosh_replay(NULL, 0, NULL, 0, NULL, 0, out, sizeof out, words, 8), 10, 0, 0));
     tried = 99;
     check("nothing to search after", answers(macaroosh_search(NULL, 0, NULL, 0, 9, 9, NULL, 0, &tried), 10, 0, 0) && tried == 0);
     tried = 99;
@@ -405,18 +440,18 @@ static void nothing_lent(void) {
 
 static void refusals(void) {
     uint8_t twice[sizeof w], out[sizeof w], as_it_was[sizeof w];
-    uint64_t words[7] = {9, 9, 9, 9, 9, 9, 9};
-    static const uint64_t nines[7] = {9, 9, 9, 9, 9, 9, 9}, left[7] = {2, 2, 2, 0, 0, 9, 7};
+    uint64_t words[8] = {9, 9, 9, 9, 9, 9, 9, 9};
+    static const uint64_t nines[8] = {9, 9, 9, 9, 9, 9, 9, 9}, left[8] = {2, 2, 2, 0, 0, 9, 7, 0};
     uint64_t step;
     memcpy(twice, w, sizeof w);
     twice[22] = 0;
     memset(out, 0xAA, sizeof out);
     memset(as_it_was, 0xAA, sizeof as_it_was);
-    check("six words are too few", answers(macaroosh_run(w, sizeof w, echo, sizeof echo, words, 6), 30, 0, 0));
-    check("no standing table", answers(macaroosh_run(w, sizeof w, echo, 0, words, 7), 1, 0, 0));
-    check("no bundle", answers(macaroosh_run(w, 0, echo, sizeof echo, words, 7), 10, 0, 0));
+    check("seven words are too few", answers(macaroosh_run(w, sizeof w, echo, sizeof echo, words, 7), 30, 0, 0));
+    check("no standing table", answers(macaroosh_run(w, sizeof w, echo, 0, words, 8), 1, 0, 0));
+    check("no bundle", answers(macaroosh_run(w, 0, echo, sizeof echo, words, 8), 10, 0, 0));
     check("the words stay", memcmp(words, nines, sizeof words) == 0);
-    check("an echo twice", answers(macaroosh_run(twice, sizeof twice, echo, sizeof echo, words, 7), 24, 4, 4));
+    check("an echo twice", answers(macaroosh_run(twice, sizeof twice, echo, sizeof echo, words, 8), 24, 4, 4));
     check("the words are those after four steps", memcmp(words, left, sizeof words) == 0);
     check("it is not translated", answers(macaroosh_translate(twice, sizeof twice, echo, sizeof echo, out, sizeof out), 24, 4, 0));
     check("30 bytes are too few", answers(macaroosh_translate(w, sizeof w, echo, sizeof echo, out, 30), 30, 0, 0));
@@ -435,6 +470,7 @@ int main(void) {
     divisors();
     editions();
     searches();
+    stopped_boards();
     refusals();
     nothing_lent();
     printf("%d passed, %d failed\n", passed, failed);

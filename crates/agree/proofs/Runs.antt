@@ -13,7 +13,7 @@ use Rattle.paper.specs.Form.{wide}
 use Rattle.paper.specs.Step.{columnOf, rcvdIn, sentIn, view, stepFault, stepped}
 use Rattle.paper.specs.Machine.{Follows}
 use Rattle.paper.specs.Run.{machineOf, run, after}
-use Rattle.paper.proofs.WordLaws.{start-low, length-start, cell-start, sent-start, same-words}
+use Rattle.paper.proofs.WordLaws.{start-low, length-start, cell-start, sent-start, same-words, stopped-start}
 use Rattle.paper.proofs.FormLaws.{coll-inj, shown-inj, coll-init, shown-init}
 use Rattle.paper.proofs.MachineLaws.{follow, follow-trip, follow-map}
 use Rattle.agree.specs.Translation.{tagBy, tagged, lowest, lowAll, coarser, finer, moved}
@@ -27,7 +27,7 @@ pub one-picture : (j : ℕ) (d : Design) → OnePicture j d
 one-picture j d w v v′ X Y =
     same-words (d .boards) (d .types) (wide (suc j)) v v′ (X .coarse-long) (Y .coarse-long) (λ p h. X .states p h ∙ sym (Y .states p h))
     (λ p m i hp hm hi. coll-inj (suc j) (d .boards) (d .faulty) _ _ (X .rcvds p m hp hm ∙ sym (Y .rcvds p m hp hm)) i hi)
-    (λ m hm. shown-inj (suc j) (d .boards) (d .faulty) _ _ (X .sents m hm ∙ sym (Y .sents m hm)))
+    (λ m hm. shown-inj (suc j) (d .boards) (d .faulty) _ _ (X .sents m hm ∙ sym (Y .sents m hm))) (X .stops ∙ sym (Y .stops))
 
 -- ---- the start
 module _ (d : Design) (starts : List ℕ) (l : length starts ≡ d .boards) where
@@ -59,6 +59,7 @@ module _ (d : Design) (starts : List ℕ) (l : length starts ≡ d .boards) wher
           states = λ p h. state-start (suc j) p h ∙ sym (state-start j p h);
           rcvds = λ p m hp hm. none-received (suc j) p m ∙ sym e ∙ ap (pictureOf j d) (sym (none-received j p m));
           sents = λ m hm. none-sent (suc j) m ∙ sym e ∙ ap (pictureOf j d) (sym (none-sent j m));
+          stops = stopped-start (d .boards) (d .types) (wide (suc j)) starts l ∙ sym (stopped-start (d .boards) (d .types) (wide j) starts l);
           sound = sound-start j;
         }
 

@@ -96,6 +96,19 @@ module _ (k : ℕ) (d : Design) (K : Remembers d) (s : Step) (σ σ′ : Conf (c
   pub still-sound : Sound k d σ′
   still-sound = record { within = still-within; told = λ m hm. still-told k d K s σ σ′ a m hm (X .told m hm) }
 
+-- ---- every level, where nothing changes but who is stopped (Q-11)
+told-same : (k : ℕ) (d : Design) (σ σ′ : Conf (columnOf k d .Coll)) (m : ℕ) → ((p : ℕ) → p < d .boards → σ′ .pc p ≡ σ .pc p) → σ′ .sent m ≡ σ .sent m → Told k d σ m → Told k d σ′ m
+told-same zero d σ σ′ m e f T = (λ q l. ap (λ (S : ℕ). mem S q) f ∙ T .0 q l, λ p h. ap (λ (S : ℕ). mem S p) f ∙ T .1 p h ∙ ap (λ (ℓ : ℕ). d .hasSent ℓ m) (sym (e p h)))
+told-same (suc k) d σ σ′ m e f T = tt
+
+pub sound-same : (k : ℕ) (d : Design) (σ σ′ : Conf (columnOf k d .Coll)) → ((p : ℕ) → p < d .boards → σ′ .pc p ≡ σ .pc p) → ((p m : ℕ) → p < d .boards → m < d .types → σ′ .rcvd p m ≡ σ .rcvd p m)
+    → ((m : ℕ) → m < d .types → σ′ .sent m ≡ σ .sent m) → Sound k d σ → Sound k d σ′
+sound-same k d σ σ′ e r t X = record {
+  within = λ p m hp hm.
+      subst⁻¹ (λ (M : columnOf k d .Coll). Within k (d .boards) (d .faulty) M (σ′ .sent m)) (r p m hp hm) (subst⁻¹ (Within k (d .boards) (d .faulty) (σ .rcvd p m)) (t m hm) (X .within p m hp hm));
+  told = λ m hm. told-same k d σ σ′ m e (t m hm) (X .told m hm);
+}
+
 -- ---- every level, at the start, where no board has sent
 module _ (d : Design) where
   start-told : (k : ℕ) (σ : Conf (columnOf k d .Coll)) (m : ℕ) → ((p : ℕ) → p < d .boards → d .hasSent (σ .pc p) m ≡ false) → σ .sent m ≡ columnOf k d .init → Told k d σ m

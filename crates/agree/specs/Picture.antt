@@ -9,7 +9,7 @@ use Rattle.senders.specs.Set.{mem, correctCount, faultyCount}
 use Rattle.paper.specs.Paper.{Design, Conf, column, noMessage}
 use Rattle.paper.specs.Words.{size, state}
 use Rattle.paper.specs.Form.{wide}
-use Rattle.paper.specs.Step.{columnOf, rcvdIn, sentIn, view}
+use Rattle.paper.specs.Step.{columnOf, rcvdIn, sentIn, stoppedIn, view}
 
 -- what an accepted table gives: no type is the byte of no message, and a rule forgets nothing that was sent
 pub record Remembers (d : Design) : Type 0 where
@@ -53,5 +53,7 @@ pub record Pictured (j : ℕ) (d : Design) (w v : List ℕ) : Type 0 where
   pub rcvds : (p m : ℕ) → p < d .boards → m < d .types → rcvdIn (suc j) d v p m ≡ pictureOf j d (rcvdIn j d w p m)
   -- 4, 5: so are the sent ones, none of which is faulty
   pub sents : (m : ℕ) → m < d .types → sentIn (suc j) d v m ≡ pictureOf j d (sentIn j d w m)
+  -- the same boards are stopped (Q-11)
+  pub stops : stoppedIn (suc j) d v ≡ stoppedIn j d w
   -- 6 to 8: what level j keeps
   pub sound : Sound j d (view j d w)

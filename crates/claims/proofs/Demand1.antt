@@ -15,8 +15,8 @@ use Rattle.fault.proofs.FaultLaws.{if-keeps, if-yes, if-no}
 use Rattle.bundle.specs.Bundle.{tableInUse}
 use Rattle.bundle.specs.Refusals.{readFault}
 use Rattle.bundle.proofs.BundleLaws.{read-by, read-within}
-use Rattle.paper.specs.Paper.{Design, Step}
-use Rattle.paper.specs.Step.{stepFault}
+use Rattle.paper.specs.Paper.{Design, Step, isStop}
+use Rattle.paper.specs.Step.{stepFault, takeFault, stopFault}
 use Rattle.paper.specs.Run.{Ran, machineOf}
 use Rattle.paper.proofs.StepLaws.{length-stepped}
 use Rattle.paper.proofs.MachineLaws.{run-keeps}
@@ -39,13 +39,20 @@ OfStepOrNone n = (n ≡ 0 → ⊥) → OfStep n
 number-or : (x : ℕ) (t : Bool) (rest : ℕ) → OfStep x → OfStepOrNone rest → OfStepOrNone (x if t else rest)
 number-or x t rest o r = if-keeps OfStepOrNone x t rest (λ _ _. o) (λ _. r)
 
-of-step : (k : ℕ) (d : Design) (w : List ℕ) (s : Step) → OfStepOrNone (stepFault k d w s)
-unfolding stepFault
-of-step k d w s =
+of-take : (k : ℕ) (d : Design) (w : List ℕ) (s : Step) → OfStepOrNone (takeFault k d w s)
+unfolding takeFault
+of-take k d w s =
     number-or 20 _ _ (omega arith, omega arith)
     (number-or 21 _ _ (omega arith, omega arith)
     (number-or 22 _ _ (omega arith, omega arith)
     (number-or 23 _ _ (omega arith, omega arith) (number-or 24 _ _ (omega arith, omega arith) (number-or 25 _ _ (omega arith, omega arith) (λ n. absurd (n refl)))))))
+
+of-step : (k : ℕ) (d : Design) (w : List ℕ) (s : Step) → OfStepOrNone (stepFault k d w s)
+unfolding stepFault stopFault
+of-step k d w s =
+    number-or 20 _ _ (omega arith, omega arith)
+    (number-or 26 _ _ (omega arith, omega arith)
+    (if-keeps OfStepOrNone _ (isStop s) _ (λ _. number-or 23 _ _ (omega arith, omega arith) (number-or 27 _ _ (omega arith, omega arith) (λ n. absurd (n refl)))) (λ _. of-take k d w s)))
 
 module _ (b standing lent : List ℕ) where
   -- ---- nothing done: the number is none of a step's, and no run is told of

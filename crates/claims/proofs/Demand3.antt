@@ -16,7 +16,7 @@ use Rattle.fault.specs.Fault.{refused, nothingDone, _if_else_}
 use Rattle.fault.proofs.FaultLaws.{if-yes, if-no, if-keeps}
 use Rattle.fault.proofs.TestLaws.{same}
 use Rattle.table.specs.Table.{typesOf, rulesOf}
-use Rattle.bundle.specs.Bundle.{nOf, fOf, formOf, correctOf, tableInUse, levelOf}
+use Rattle.bundle.specs.Bundle.{nOf, tOf, fOf, formOf, correctOf, tableInUse, levelOf}
 use Rattle.bundle.specs.Refusals.{readFault}
 use Rattle.bundle.specs.Facts.{Read}
 use Rattle.bundle.proofs.BundleLaws.{read-by, read-within, level-same}
@@ -32,7 +32,7 @@ use Rattle.agree.proofs.Columns.{picture-laws}
 use Rattle.agree.proofs.Runs.{all-forms}
 use Rattle.rules.specs.Design.{designOf}
 use Rattle.words.specs.declared.Sizes.{Sizes}
-use Rattle.words.specs.Words.{fromCorrect, fromFaulty, correctIn, faultyIn, sentCountIn}
+use Rattle.words.specs.Words.{fromCorrect, fromFaulty, correctIn, faultyIn, sentCountIn, stoppedOf}
 use Rattle.engine.specs.Design.{sizesIn, designIn}
 use Rattle.engine.specs.Entry.{scheduleOf, ranWith, ranOf, ranAnswer, runAnswer, startIn}
 use Rattle.engine.proofs.BoundLaws.{ran-within}
@@ -47,9 +47,10 @@ use Rattle.paper.specs.Order.{Found, none, found, first}
 use Rattle.first_step.specs.Entry.{answerOf, afterRun, firstAnswer}
 use Rattle.claims.specs.FirstStep.{FirstAgreed}
 use Rattle.claims.specs.Demand1.{Runs, afterIn}
-use Rattle.claims.specs.Demand3.{correctAfter, faultyAfter, sentAfter, Alike, Translated, SideBySide, taggedFound, lowestFound, Neighbours, Refuses, Demand3}
+use Rattle.claims.specs.Demand3.{correctAfter, faultyAfter, sentAfter, stoppedAfter, Alike, Translated, SideBySide, taggedFound, lowestFound, Neighbours, Refuses, Demand3}
 use Rattle.claims.proofs.Demand1.{run-unread, run-read, runs-by, runs-all}
 use Rattle.claims.proofs.FirstAgreed.{first-agreed}
+use Rattle.claims.proofs.FirstCall.{few-rules}
 use Rattle.words.specs.Facts.{mostWords}
 
 -- ---- neighbours are alike, and so are all forms
@@ -61,6 +62,7 @@ module _ (d : Design) where
         states = X .states;
         counts = λ p m hp hm. ap (columnOf (suc j) d .card) (X .rcvds p m hp hm) ∙ L .card _;
         sents = λ m hm. ap (columnOf (suc j) d .card) (X .sents m hm) ∙ L .card _;
+        stops = X .stops;
       }
 
   alike-through : {i j k : ℕ} {u w v : List ℕ} → Alike d i u j w → Alike d k v j w → Alike d i u k v
@@ -68,10 +70,11 @@ module _ (d : Design) where
     states = λ p h. A .states p h ∙ sym (B .states p h);
     counts = λ p m hp hm. A .counts p m hp hm ∙ sym (B .counts p m hp hm);
     sents = λ m hm. A .sents m hm ∙ sym (B .sents m hm);
+    stops = A .stops ∙ sym (B .stops);
   }
 
   alike-own : (j : ℕ) (w : List ℕ) → Alike d j w j w
-  alike-own j w = record { states = λ p h. refl; counts = λ p m hp hm. refl; sents = λ m hm. refl }
+  alike-own j w = record { states = λ p h. refl; counts = λ p m hp hm. refl; sents = λ m hm. refl; stops = refl }
 
   -- down to message form
   alike-sets : (W : ℕ → List ℕ) → ((j : ℕ) → Pictured j d (W j) (W (suc j))) → (k : ℕ) → Alike d k (W k) 0 (W 0)
@@ -108,6 +111,7 @@ record Equal (standing : List ℕ) (C T : ℕ) (x y : List ℕ) : Type 0 where
   corrects : (i p m : ℕ) → p < C → m < T → correctAfter x standing i p m ≡ correctAfter y standing i p m
   faulties : (i p m : ℕ) → p < C → m < T → faultyAfter x standing i p m ≡ faultyAfter y standing i p m
   sents : (i m : ℕ) → m < T → sentAfter x standing i m ≡ sentAfter y standing i m
+  stops : (i : ℕ) → stoppedAfter x standing i ≡ stoppedAfter y standing i
 
 equal-turned : {standing x y : List ℕ} {C T : ℕ} → Equal standing C T x y → Equal standing C T y x
 equal-turned E = record {
@@ -115,6 +119,7 @@ equal-turned E = record {
   corrects = λ i p m hp hm. sym (E .corrects i p m hp hm);
   faulties = λ i p m hp hm. sym (E .faulties i p m hp hm);
   sents = λ i m h. sym (E .sents i m h);
+  stops = λ i. sym (E .stops i);
 }
 
 -- ---- a bundle that runs
@@ -154,7 +159,7 @@ module _ (b standing : List ℕ) (S : Runs b standing) where
 
   -- the design depends on n, t, f and the table only
   abbrev design : ℕ → ℕ → ℕ → List ℕ → Design
-  design n t f table = designOf (record { level = 0; correct = n - f; faulty = f; types = typesOf table; rules = rulesOf table; wide = 1; row = typesOf table }) t table
+  design n t f table = designOf (record { level = 0; correct = n - f; faulty = f; types = typesOf table; rules = rulesOf table; wide = 1; row = typesOf table; tolerated = t }) t table
 
   module _ (k : ℕ) where
     abbrev c : List ℕ
@@ -283,7 +288,7 @@ module _ (b standing : List ℕ) (S : Runs b standing) where
         (subst⁻¹ (Pictured j d (after j d (begin j) (new j) (length ss))) (left-at (suc j) (omega arith)) (all .pictured j (length ss)))
 
     firsts : FirstAgreed j d (ranOf (form j) standing .left) (ranOf (form (suc j)) standing .left)
-    firsts = first-agreed j d (kept t b R) _ _ left-pictured
+    firsts = first-agreed j d (kept t b R) (few-rules b standing (S .read)) _ _ left-pictured
 
     neighbours : Neighbours j d standing (translationOf b standing j) (translationOf b standing (suc j))
     unfolding translationWith
@@ -295,14 +300,14 @@ module _ (b standing : List ℕ) (S : Runs b standing) where
 
   -- ---- side by side, in message and counting form
   -- the numbers of the bundle in form k
-  abbrev numbers : ℕ → ℕ → ℕ → List ℕ → Sizes
-  numbers l n f table = record { level = l; correct = n - f; faulty = f; types = typesOf table; rules = rulesOf table; wide = wide l; row = typesOf table * wide l }
+  abbrev numbers : ℕ → ℕ → ℕ → ℕ → List ℕ → Sizes
+  numbers l n m f table = record { level = l; correct = n - f; faulty = f; types = typesOf table; rules = rulesOf table; wide = wide l; row = typesOf table * wide l; tolerated = m }
 
   abbrev sizes : ℕ → Sizes
-  sizes k = numbers k (nOf b) (fOf b) t
+  sizes k = numbers k (nOf b) (tOf b) (fOf b) t
 
   sizes-at : (k : ℕ) → k ≤ 2 → sizesIn (form k) standing ≡ sizes k
-  sizes-at k h = λ i. numbers (level-at k h i) (same-n t b R (recast-c k) i) (same-f t b R (recast-c k) i) (same-table t b R (recast-c k) standing i)
+  sizes-at k h = λ i. numbers (level-at k h i) (same-n t b R (recast-c k) i) (same-t t b R (recast-c k) i) (same-f t b R (recast-c k) i) (same-table t b R (recast-c k) standing i)
 
   abbrev Two : Type 0
   Two = columnOf 1 d .Coll
@@ -322,6 +327,7 @@ module _ (b standing : List ℕ) (S : Runs b standing) where
         corrects = λ i p m hp hm. ap (λ (s : Sizes). correctIn s (W 0 i) p m) (S₀) ∙ sym (ap (λ (c : Two). c .correct) (P i .rcvds p m hp hm)) ∙ sym (ap (λ (s : Sizes). correctIn s (W 1 i) p m) S₁);
         faulties = λ i p m hp hm. ap (λ (s : Sizes). faultyIn s (W 0 i) p m) (S₀) ∙ sym (ap (λ (c : Two). c .faulty) (P i .rcvds p m hp hm)) ∙ sym (ap (λ (s : Sizes). faultyIn s (W 1 i) p m) S₁);
         sents = λ i m h. ap (λ (s : Sizes). sentCountIn s (W 0 i) m) (S₀) ∙ sym (ap (λ (c : Two). c .correct) (P i .sents m h)) ∙ sym (ap (λ (s : Sizes). sentCountIn s (W 1 i) m) S₁);
+        stops = λ i. ap (λ (s : Sizes). stoppedOf s (W 0 i)) S₀ ∙ sym (P i .stops) ∙ sym (ap (λ (s : Sizes). stoppedOf s (W 1 i)) S₁);
       }
 
   side : formOf b ≤ 1 → SideBySide b standing (translationOf b standing (usual b))
@@ -332,7 +338,7 @@ module _ (b standing : List ℕ) (S : Runs b standing) where
       made k e E =
           let T = translated (usual b) (usual-other b) in
           let F = subst⁻¹ (λ (x : ℕ). Equal standing (correctOf b) (typesOf t) b (translationOf b standing x)) e E in
-          record { answered = T .answered; written = T .written; runs = T .runs; states = F .states; corrects = F .corrects; faulties = F .faulties; sents = F .sents }
+          record { answered = T .answered; written = T .written; runs = T .runs; states = F .states; corrects = F .corrects; faulties = F .faulties; sents = F .sents; stops = F .stops }
 
       -- the bundle in its own form
       itself : (k : ℕ) → formOf b ≡ k → translationOf b standing k ≡ b

@@ -35,7 +35,7 @@ use Rattle.first_step.specs.Entry.{firstAfter, afterRun, firstAnswer}
 use Rattle.same.specs.Same.{SameRun}
 use Rattle.same.proofs.Runs.{run-same, words-same, first-same}
 use Rattle.claims.specs.Demand1.{roomIn}
-use Rattle.claims.specs.Exchange.{OfTwoBoards, AcceptedAfter, SameCalls, NotHeard, Q10}
+use Rattle.claims.specs.Exchange.{OfTwoBoards, AcceptedAfter, SameCalls, NotHeard, Q10, RoomAfter}
 use Rattle.claims.proofs.Demand1.{demand1}
 
 -- ---- the bytes
@@ -114,14 +114,14 @@ module _ (b standing : List ℕ) (i : ℕ) (z : readFault b standing .number ≡
       let q = sym same-schedule in
       sym (λ j. run (s j .level) (e j) (start (s j .types) (wide (s j .level)) (w j)) (q j))
 
-  same-calls : OfTwoBoards b i → AcceptedAfter b standing i i → AcceptedAfter b standing i (suc i) → SameCalls c b standing
+  same-calls : OfTwoBoards b i → AcceptedAfter b standing i i → AcceptedAfter b standing i (suc i) → RoomAfter b standing i → SameCalls c b standing
   unfolding ranWith
-  same-calls o p q =
+  same-calls o p q room =
       let E : SameRun c standing b standing = record {
         fault = recast-read standing R X;
         sizes = sym (recast-sizes standing R X);
         design = sym (recast-design standing R X);
-        ran = ran-is ∙ exchange .same-run _ _ _ (scheduleOf b) i l o p q;
+        ran = ran-is ∙ exchange .same-run _ _ _ (scheduleOf b) i l o p q room;
       } in
       record { answer = run-same E; words = words-same E; first = first-same E }
 

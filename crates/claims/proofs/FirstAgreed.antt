@@ -3,12 +3,12 @@
 use mathlib.Core.Path.{_≡_, refl, sym, ap, ap₂, _∙_, subst}
 use mathlib.Core.Bool.{Bool, true, false, true≢false}
 use mathlib.Core.List.{List}
-use Prim.Native.Nat.{ℕ, suc, _<_}
+use Prim.Native.Nat.{ℕ, suc, _<_, _≤_}
 use native.Mathlib.Decide.{decLt}
 use native.Mathlib.Omega.{arith}
-use Rattle.paper.specs.Paper.{Design, Step, silent}
+use Rattle.paper.specs.Paper.{Design, Step, silent, stopRule, isStop}
 use Rattle.paper.specs.Step.{columnOf, rcvdIn, sentIn, stepFault}
-use Rattle.paper.proofs.StepLaws.{accepted}
+use Rattle.paper.proofs.StepLaws.{accepted, Arrives, ruled, loud-rule}
 use Rattle.agree.specs.Translation.{tagOf, withSource, tagged, lowSender, lowest}
 use Rattle.agree.specs.Picture.{Remembers, Pictured}
 use Rattle.agree.proofs.Columns.{picture-laws}
@@ -44,7 +44,11 @@ module _ (s t : Step) (x y : ℕ) (f : Earlier (withSource s x) t → ⊥) (g : 
   not-after : EarlierMessage (withSource t y) s → ⊥
   not-after e = g (message (sym same-board) (sym same-rule) e)
 
-module _ (j : ℕ) (d : Design) (K : Remembers d) (w v : List ℕ) (X : Pictured j d w v) where
+-- an accepted step with a message is none of stopping
+pub heard-by : (k : ℕ) (d : Design) (w : List ℕ) (s : Step) → silent s ≡ false → stepFault k d w s ≡ 0 → Arrives k d w s
+heard-by k d w s e z = accepted k d w s (ruled k d w s (loud-rule k d w s e z) z .1) .arrives
+
+module _ (j : ℕ) (d : Design) (K : Remembers d) (few : d .rules ≤ stopRule) (w v : List ℕ) (X : Pictured j d w v) where
   -- ---- the first steps of the two forms are translations of each other
   module _ (s t : Step) (a : stepFault j d w s ≡ 0) (b : stepFault (suc j) d v t ≡ 0) where
     both-silent : silent s ≡ true → silent t ≡ true → (Earlier s t → ⊥) → (Earlier t s → ⊥) → s ≡ t
@@ -56,8 +60,8 @@ module _ (j : ℕ) (d : Design) (K : Remembers d) (w v : List ℕ) (X : Pictured
     both-messages e h f g =
         let x = tagOf j (d .boards) (s .source) in
         let y = lowSender j d w t in
-        let A = accepted j d w s a .arrives in
-        let B = accepted (suc j) d v t b .arrives in
+        let A = heard-by j d w s e a in
+        let B = heard-by (suc j) d v t h b in
         let n = typed (d .types) s x (K .few) (A .named e .type) in
         let o = typed (d .types) t y (K .few) (B .named h .type) in
         let p = same-board s t x y f g in
@@ -88,38 +92,53 @@ module _ (j : ℕ) (d : Design) (K : Remembers d) (w v : List ℕ) (X : Pictured
     where
       go : (b : Bool) → silent s ≡ b → isWait d (tagged j d s) ≡ isWait d s
       go true e = ap (isWait d) (tagged-silent j d s e)
-      go false e = ap (isWait d) (tagged-message j d s e) ∙ message-waits d (withSource s (tagOf j (d .boards) (s .source))) (typed (d .types) s (tagOf j (d .boards) (s .source)) (K .few) (accepted j d w s z .arrives .named e .type)) ∙ sym (message-waits d s e)
+      go false e = ap (isWait d) (tagged-message j d s e) ∙ message-waits d (withSource s (tagOf j (d .boards) (s .source))) (typed (d .types) s (tagOf j (d .boards) (s .source)) (K .few) (heard-by j d w s e z .named e .type)) ∙ sym (message-waits d s e)
 
   wait-lowest : (t : Step) → stepFault (suc j) d v t ≡ 0 → isWait d (lowest j d w t) ≡ isWait d t
   wait-lowest t z = go (silent t) refl
     where
       go : (b : Bool) → silent t ≡ b → isWait d (lowest j d w t) ≡ isWait d t
       go true e = ap (isWait d) (lowest-silent j d t w e)
-      go false e = ap (isWait d) (lowest-message j d t w e) ∙ message-waits d (withSource t (lowSender j d w t)) (typed (d .types) t (lowSender j d w t) (K .few) (accepted (suc j) d v t z .arrives .named e .type)) ∙ sym (message-waits d t e)
+      go false e = ap (isWait d) (lowest-message j d t w e) ∙ message-waits d (withSource t (lowSender j d w t)) (typed (d .types) t (lowSender j d w t) (K .few) (heard-by (suc j) d v t e z .named e .type)) ∙ sym (message-waits d t e)
+
+  -- and of a stop a stop
+  stop-tagged : (s : Step) → isStop (tagged j d s) ≡ isStop s
+  stop-tagged s = go (silent s) refl
+    where
+      go : (b : Bool) → silent s ≡ b → isStop (tagged j d s) ≡ isStop s
+      go true e = ap isStop (tagged-silent j d s e)
+      go false e = ap isStop (tagged-message j d s e)
+
+  stop-lowest : (t : Step) → isStop (lowest j d w t) ≡ isStop t
+  stop-lowest t = go (silent t) refl
+    where
+      go : (b : Bool) → silent t ≡ b → isStop (lowest j d w t) ≡ isStop t
+      go true e = ap isStop (lowest-silent j d t w e)
+      go false e = ap isStop (lowest-message j d t w e)
 
   both-found : (s t : Step) → first j d w ≡ found s → first (suc j) d v ≡ found t → s ≡ lowest j d w t
   both-found s t h k =
-      let F = first-possible j d w in
-      let G = first-possible (suc j) d v in
+      let F = first-possible j d w few in
+      let G = first-possible (suc j) d v few in
       let a = F .accepted s h in
       let b = G .accepted t k in
       same s t a b
-      (λ l. true≢false (sym (G .earliest t k (tagged j d s) l (forward j d K w v X s a .accepted)) ∙ wait-tagged s a ∙ F .no-wait s h))
-      (λ l. true≢false (sym (F .earliest s h (lowest j d w t) l (backward j d K w v X t b .accepted)) ∙ wait-lowest t b ∙ G .no-wait t k))
+      (λ l. true≢false (sym (G .earliest t k (tagged j d s) l (forward j d K w v X s a .accepted) (stop-tagged s ∙ F .no-stop s h)) ∙ wait-tagged s a ∙ F .no-wait s h))
+      (λ l. true≢false (sym (F .earliest s h (lowest j d w t) l (backward j d K w v X t b .accepted) (stop-lowest t ∙ G .no-stop t k)) ∙ wait-lowest t b ∙ G .no-wait t k))
 
   -- where one form has a step, the other has one
   none-there : first j d w ≡ none → first (suc j) d v ≡ none
-  none-there h = first-possible (suc j) d v .nothing-else (λ t b. sym (wait-lowest t b) ∙ first-possible j d w .none-possible h (lowest j d w t) (backward j d K w v X t b .accepted))
+  none-there h = first-possible (suc j) d v few .nothing-else (λ t b o. sym (wait-lowest t b) ∙ first-possible j d w few .none-possible h (lowest j d w t) (backward j d K w v X t b .accepted) (stop-lowest t ∙ o))
 
   none-back : first (suc j) d v ≡ none → first j d w ≡ none
-  none-back h = first-possible j d w .nothing-else (λ s a. sym (wait-tagged s a) ∙ first-possible (suc j) d v .none-possible h (tagged j d s) (forward j d K w v X s a .accepted))
+  none-back h = first-possible j d w few .nothing-else (λ s a o. sym (wait-tagged s a) ∙ first-possible (suc j) d v few .none-possible h (tagged j d s) (forward j d K w v X s a .accepted) (stop-tagged s ∙ o))
 
   there : (s : Step) → first j d w ≡ found s → first (suc j) d v ≡ found (tagged j d s)
   there s h = go (first (suc j) d v) refl
     where
       go : (x : Found) → first (suc j) d v ≡ x → first (suc j) d v ≡ found (tagged j d s)
       go none e = clash s (sym (none-back e) ∙ h)
-      go (found t) e = e ∙ ap found (sym (ap (tagged j d) (both-found s t h e) ∙ backward j d K w v X t (first-possible (suc j) d v .accepted t e) .trip))
+      go (found t) e = e ∙ ap found (sym (ap (tagged j d) (both-found s t h e) ∙ backward j d K w v X t (first-possible (suc j) d v few .accepted t e) .trip))
 
   back : (t : Step) → first (suc j) d v ≡ found t → first j d w ≡ found (lowest j d w t)
   back t h = go (first j d w) refl

@@ -10,7 +10,8 @@ use borrow.Author.Tests.{eq-eqb, ne-eqb}
 use Rattle.fault.specs.declared.Answer.{Answer}
 use Rattle.fault.proofs.FaultLaws.{if-yes, if-no}
 use Rattle.bundle.specs.Refusals.{readFault}
-use Rattle.paper.specs.Paper.{Step}
+use Rattle.bundle.proofs.BundleLaws.{read-by}
+use Rattle.paper.specs.Paper.{Step, stopRule}
 use Rattle.paper.specs.Order.{Found, none, found, first}
 use Rattle.words.specs.Facts.{mostWords}
 use Rattle.engine.specs.Design.{sizesIn, designIn}
@@ -27,6 +28,10 @@ use Rattle.claims.proofs.FirstStep.{clash, first-possible}
 not-nothing : {A : Type 0} (number place : ℕ) → First.Refused number place ≡ First.Nothing → A
 not-nothing number place e = let z : _≡_ {A = ℕ} 0 1 = cc in absurd (omega arith)
 
+-- no rule of a table that is read has the number of a stop
+pub few-rules : (b standing : List ℕ) → readFault b standing .number ≡ 0 → designIn b standing .rules ≤ stopRule
+few-rules b standing z = omega (arith, read-by b standing refl z refl .formed .sized .few-rules)
+
 module _ (b standing : List ℕ) where
   -- ---- a refusal that `run` gives too
   refused-is : (number place : ℕ) → (number ≡ 0 → ⊥) → ((lent : ℕ) → mostWords ≤ lent → (runAnswer b standing lent .refusal ≡ number) × (runAnswer b standing lent .place ≡ place))
@@ -41,6 +46,7 @@ module _ (b standing : List ℕ) where
     step-runs = λ s e. clash s e;
     accepted = λ s e. clash s e;
     no-wait = λ s e. clash s e;
+    no-stop = λ s e. clash s e;
     earliest = λ s e. clash s e;
   }
 
@@ -56,7 +62,7 @@ module _ (b standing : List ℕ) where
   -- ---- the first step after a schedule that runs
   module _ (R : Runs b standing) where
     F : FirstPossible (sizesIn b standing .level) (designIn b standing) (ranOf b standing .left)
-    F = first-possible (sizesIn b standing .level) (designIn b standing) (ranOf b standing .left)
+    F = first-possible (sizesIn b standing .level) (designIn b standing) (ranOf b standing .left) (few-rules b standing (R .read))
 
     goes : (x : Found) → first (sizesIn b standing .level) (designIn b standing) (ranOf b standing .left) ≡ x → FirstOf b standing (answerOf x)
     goes none e = record {
@@ -69,6 +75,7 @@ module _ (b standing : List ℕ) where
       step-runs = λ s f. clash s f;
       accepted = λ s f. clash s f;
       no-wait = λ s f. clash s f;
+      no-stop = λ s f. clash s f;
       earliest = λ s f. clash s f;
     }
     goes (found x) e = record {
@@ -81,6 +88,7 @@ module _ (b standing : List ℕ) where
       step-runs = λ _ _. R;
       accepted = λ s f. F .accepted s (named s f);
       no-wait = λ s f. F .no-wait s (named s f);
+      no-stop = λ s f. F .no-stop s (named s f);
       earliest = λ s f. F .earliest s (named s f);
     }
       where

@@ -2,17 +2,17 @@
 use mathlib.Core.Path.{_≡_, refl, sym, ap, ap₂, _∙_, subst, subst⁻¹}
 use mathlib.Core.Bool.{Bool, true, false, not, true≢false}
 use mathlib.Core.List.{List}
-use Prim.Native.Nat.{ℕ, zero, suc, _<_}
+use Prim.Native.Nat.{ℕ, zero, suc, _≤_, _<_}
 use native.Mathlib.Nat.{not-suc-le-zero, le-refl}
 use native.Mathlib.Decide.{ℕ-discrete}
 use native.Mathlib.Omega.{arith}
 use lib.Dec.{eqb}
-use borrow.Author.Tests.{eq-eqb, eqb-true, not-true}
+use borrow.Author.Tests.{eq-eqb, ne-eqb, eqb-true, not-true}
 use Rattle.senders.proofs.TallyLaws.{and-both}
 use Rattle.fault.specs.Fault.{_if_else_}
-use Rattle.paper.specs.Paper.{Design, Step, silent}
+use Rattle.paper.specs.Paper.{Design, Step, silent, stopRule, isStop}
 use Rattle.paper.specs.Step.{columnOf, stepFault}
-use Rattle.paper.proofs.StepLaws.{Accepted, accepted}
+use Rattle.paper.proofs.StepLaws.{Accepted, accepted, ruled}
 use Rattle.first_step.proofs.SeekLaws.{stepOf}
 use Rattle.paper.specs.Order.{Found, none, found, orElse, seek, isWait, possible, tries, ofSources, ofTypes, ofRules, first}
 use Rattle.claims.specs.FirstStep.{EarlierMessage, noMessage, lowerType, lowerSource, Earlier, lowerBoard, lowerRule, message, FirstPossible}
@@ -86,6 +86,10 @@ module _ (k : ℕ) (d : Design) (w : List ℕ) where
   unfolding possible
   is-possible s z o = rw (eq-eqb _ 0 z, o)
 
+  -- by a rule, if it is no stop
+  by-table : (s : Step) → Possible s → isStop s ≡ false → Accepted k d w s
+  by-table s z o = accepted k d w s (ruled k d w s o (is-accepted s z) .1)
+
   -- ---- a step that is tried
   tried-none : (p r m q : ℕ) → tries (possible k d w) p r m q ≡ none → Possible (stepOf p r m q) → ⊥
   unfolding tries _if_else_
@@ -100,11 +104,11 @@ module _ (k : ℕ) (d : Design) (w : List ℕ) where
       go false e h = clash s h
 
   -- ---- an accepted step is seen at its board and rule
-  rule-sees : (s : Step) → Possible s → ofTypes n d (possible k d w) (s .board) (s .rule) ≡ none → ⊥
-  rule-sees s z h = go (silent s) refl
+  rule-sees : (s : Step) → Possible s → isStop s ≡ false → ofTypes n d (possible k d w) (s .board) (s .rule) ≡ none → ⊥
+  rule-sees s z o h = go (silent s) refl
     where
       A : Accepted k d w s
-      A = accepted k d w s (is-accepted s z)
+      A = by-table s z o
 
       go : (b : Bool) → silent s ≡ b → ⊥
       go true e = tried-none (s .board) (s .rule) 255 255 (or-first _ _ h) (ap (possible k d w) (silent-is s e) ∙ z)
@@ -113,12 +117,12 @@ module _ (k : ℕ) (d : Design) (w : List ℕ) where
           tried-none (s .board) (s .rule) (s .type) (s .source)
           (seek-each n (tries (possible k d w) (s .board) (s .rule) (s .type)) (seek-each (d .types) (ofSources n (possible k d w) (s .board) (s .rule)) (or-second _ _ h) (s .type) (N .type)) (s .source) (N .source)) z
 
-  board-sees : (s : Step) → Possible s → ofRules n d (possible k d w) (s .board) ≡ none → ⊥
-  board-sees s z h = rule-sees s z (seek-each (d .rules) (ofTypes n d (possible k d w) (s .board)) h (s .rule) (accepted k d w s (is-accepted s z) .arrives .rule))
+  board-sees : (s : Step) → Possible s → isStop s ≡ false → ofRules n d (possible k d w) (s .board) ≡ none → ⊥
+  board-sees s z o h = rule-sees s z o (seek-each (d .rules) (ofTypes n d (possible k d w) (s .board)) h (s .rule) (by-table s z o .arrives .rule))
 
-  none-is : first k d w ≡ none → (s : Step) → Possible s → ⊥
+  none-is : first k d w ≡ none → (s : Step) → isStop s ≡ false → Possible s → ⊥
   unfolding first
-  none-is h s z = board-sees s z (seek-each (d .boards) (ofRules n d (possible k d w)) h (s .board) (accepted k d w s (is-accepted s z) .arrives .board))
+  none-is h s o z = board-sees s z o (seek-each (d .boards) (ofRules n d (possible k d w)) h (s .board) (by-table s z o .arrives .board))
 
   -- ---- where a step is found
   -- at board p and rule r, by the try of no message, or by that of type m and source q
@@ -142,6 +146,7 @@ module _ (k : ℕ) (d : Design) (w : List ℕ) where
   record Place (s : Step) : Type 0 where
     board : ℕ
     rule : ℕ
+    below : rule < d .rules
     boards : (j : ℕ) → j < board → ofRules n d (possible k d w) j ≡ none
     rules : (j : ℕ) → j < rule → ofTypes n d (possible k d w) board j ≡ none
     found-by : ByRule board rule s
@@ -151,7 +156,7 @@ module _ (k : ℕ) (d : Design) (w : List ℕ) where
   place s h =
       let B = seek-hit (d .boards) (ofRules n d (possible k d w)) s h in
       let R = seek-hit (d .rules) (ofTypes n d (possible k d w) (B .at)) s (B .here) in
-      record { board = B .at; rule = R .at; boards = B .before; rules = R .before; found-by = by-rule (B .at) (R .at) s (R .here) }
+      record { board = B .at; rule = R .at; below = R .below; boards = B .before; rules = R .before; found-by = by-rule (B .at) (R .at) s (R .here) }
 
   by-accepted : (p r : ℕ) (s : Step) → ByRule p r s → Possible s
   by-accepted p r s (byNone e z) = ap (possible k d w) e ∙ z
@@ -166,7 +171,7 @@ module _ (k : ℕ) (d : Design) (w : List ℕ) where
   by-number p r s (byMessage m q e z h f g) = ap (λ (x : Step). x .rule) e
 
   -- ---- nothing earlier
-  module _ (t : Step) (z : Possible t) where
+  module _ (t : Step) (z : Possible t) (o : isStop t ≡ false) where
     no-earlier-message : (p r : ℕ) (s : Step) → ByRule p r s → t .board ≡ p → t .rule ≡ r → EarlierMessage t s → ⊥
     no-earlier-message p r s (byNone e y) hp hr (noMessage a b) = true≢false (sym (ap silent e) ∙ b)
     no-earlier-message p r s (byNone e y) hp hr (lowerType a b l) = true≢false (sym (ap silent e) ∙ b)
@@ -174,7 +179,7 @@ module _ (k : ℕ) (d : Design) (w : List ℕ) where
     no-earlier-message p r s (byMessage m q e y h f g) hp hr (noMessage a b) =
         tried-none p r 255 255 h (ap₂ (λ (x y : ℕ). possible k d w (stepOf x y 255 255)) (sym hp) (sym hr) ∙ ap (possible k d w) (silent-is t a) ∙ z)
     no-earlier-message p r s (byMessage m q e y h f g) hp hr (lowerType a b l) =
-        let N = accepted k d w t (is-accepted t z) .arrives .named a in
+        let N = by-table t z o .arrives .named a in
         tried-none p r (t .type) (t .source) (seek-each n (tries (possible k d w) p r (t .type)) (f (t .type) (subst (λ (x : ℕ). t .type < x) (ap (λ (x : Step). x .type) e) l)) (t .source) (N .source))
         (ap₂ (λ (x y : ℕ). possible k d w (stepOf x y (t .type) (t .source))) (sym hp) (sym hr) ∙ z)
     no-earlier-message p r s (byMessage m q e y h f g) hp hr (lowerSource a b c l) =
@@ -183,24 +188,29 @@ module _ (k : ℕ) (d : Design) (w : List ℕ) where
         ∙ ap₂ (λ (x y : ℕ). possible k d w (stepOf x y (t .type) (t .source))) (sym hp) (sym hr) ∙ z)
 
     no-earlier : (s : Step) → Place s → Earlier t s → ⊥
-    no-earlier s P (lowerBoard l) = board-sees t z (P .boards (t .board) (subst (λ (x : ℕ). t .board < x) (by-board (P .board) (P .rule) s (P .found-by)) l))
+    no-earlier s P (lowerBoard l) = board-sees t z o (P .boards (t .board) (subst (λ (x : ℕ). t .board < x) (by-board (P .board) (P .rule) s (P .found-by)) l))
     no-earlier s P (lowerRule e l) =
         let h : t .board ≡ P .board = e ∙ by-board (P .board) (P .rule) s (P .found-by) in
-        rule-sees t z (subst⁻¹ (λ (x : ℕ). ofTypes n d (possible k d w) x (t .rule) ≡ none) h (P .rules (t .rule) (subst (λ (x : ℕ). t .rule < x) (by-number (P .board) (P .rule) s (P .found-by)) l)))
+        rule-sees t z o (subst⁻¹ (λ (x : ℕ). ofTypes n d (possible k d w) x (t .rule) ≡ none) h (P .rules (t .rule) (subst (λ (x : ℕ). t .rule < x) (by-number (P .board) (P .rule) s (P .found-by)) l)))
     no-earlier s P (message e f m) =
         no-earlier-message (P .board) (P .rule) s (P .found-by) (e ∙ by-board (P .board) (P .rule) s (P .found-by)) (f ∙ by-number (P .board) (P .rule) s (P .found-by)) m
 
-  pub first-possible : FirstPossible k d w
-  first-possible = record {
-    none-possible = λ h s z. waits s z (none-is h s);
+  pub first-possible : d .rules ≤ stopRule → FirstPossible k d w
+  first-possible few = record {
+    none-possible = λ h s z o. waits s z (none-is h s o);
     nothing-else = λ f. go f (first k d w) refl;
     accepted = λ s h. is-accepted s (seen s h);
     no-wait = λ s h. is-no-wait s (seen s h);
-    earliest = λ s h t e z. waits t z (λ y. no-earlier t y s (place s h) e);
+    no-stop = λ s h. by-number-below s h;
+    earliest = λ s h t e z o. waits t z (λ y. no-earlier t y o s (place s h) e);
   }
     where
       seen : (s : Step) → first k d w ≡ found s → Possible s
       seen s h = let P = place s h in by-accepted (P .board) (P .rule) s (P .found-by)
+
+      -- its rule is one of the design's
+      by-number-below : (s : Step) → first k d w ≡ found s → isStop s ≡ false
+      by-number-below s h = let P = place s h in ne-eqb (s .rule) stopRule (λ e. omega (arith, few, P .below, e, by-number (P .board) (P .rule) s (P .found-by)))
 
       -- what is accepted and not possible is a wait
       waits : (s : Step) → stepFault k d w s ≡ 0 → (Possible s → ⊥) → isWait d s ≡ true
@@ -210,6 +220,6 @@ module _ (k : ℕ) (d : Design) (w : List ℕ) where
           split true e = e
           split false e = absurd (n (is-possible s z e))
 
-      go : ((s : Step) → stepFault k d w s ≡ 0 → isWait d s ≡ true) → (a : Found) → first k d w ≡ a → first k d w ≡ none
+      go : ((s : Step) → stepFault k d w s ≡ 0 → isStop s ≡ false → isWait d s ≡ true) → (a : Found) → first k d w ≡ a → first k d w ≡ none
       go f none e = e
-      go f (found s) e = absurd (true≢false (sym (f s (is-accepted s (seen s e))) ∙ is-no-wait s (seen s e)))
+      go f (found s) e = absurd (true≢false (sym (f s (is-accepted s (seen s e)) (by-number-below s e)) ∙ is-no-wait s (seen s e)))

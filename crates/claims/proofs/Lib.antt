@@ -21,3 +21,4 @@ pub mod SearchOrder
 pub mod SearchForms
 pub mod Search
 pub mod Exchange
+pub mod Stops

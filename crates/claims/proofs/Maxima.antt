@@ -42,7 +42,7 @@ unfolding
     frontLength tableInUse startsOf noTrailer outOfBundle notAdmitted stepsOff notInitial startFault scheduleFault faultWith
 bundle-read = refl
 
-bundle-room : roomIn longest [] ≡ 580
+bundle-room : roomIn longest [] ≡ 581
 unfolding _if_else_ typesIn frontLength tableInUse levelOf wide size
 bundle-room = refl
 
@@ -51,7 +51,7 @@ bundle-long = refl
 
 pub maxima : Maxima
 maxima = record {
-  words = λ b standing z. room-few b standing 580 z (omega arith);
+  words = λ b standing z. room-few b standing 581 z (omega arith);
   table = λ s z. omega (arith, table-short s (well-formed s z .sized));
   drawing = λ s z. omega (arith, drawing-few s (well-formed s z));
   bundle = λ b standing z. omega (arith, read-short b standing (read-by b standing refl z refl));

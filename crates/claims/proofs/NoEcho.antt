@@ -20,7 +20,7 @@ use Rattle.fault.specs.Fault.{_if_else_}
 use Rattle.layout.specs.Layout.{second, typesIn, typeBytes, weightBytes, divisorAt, weightsAt, weightsOf}
 use Rattle.table.specs.Table.{rulesOf, typesByte, typesOf, ruleAt, ruleOf, weightsFor}
 use Rattle.table.specs.Facts.{Sized}
-use Rattle.paper.specs.Paper.{Design, Conf, Step, Moves, column, newly}
+use Rattle.paper.specs.Paper.{Design, Conf, Step, Moves, Steps, byRule, byStop, column, newly, stopRule, isStop}
 use Rattle.paper.specs.Words.{size, cellAt, sentAt, state, cell, sent, start}
 use Rattle.paper.specs.Form.{wide, shown}
 use Rattle.paper.specs.Step.{columnOf, rcvdIn, view, stepFault, stepped}
@@ -28,9 +28,9 @@ use Rattle.paper.proofs.MachineLaws.{run-keeps}
 use Rattle.paper.specs.Run.{machineOf, run}
 use Rattle.paper.proofs.WordLaws.{cell-below, start-low, length-start, sent-start}
 use Rattle.paper.proofs.FormLaws.{coll-same, shown-init, shown-inj}
-use Rattle.paper.proofs.StepLaws.{step-moves, length-stepped}
+use Rattle.paper.proofs.StepLaws.{step-related, length-stepped}
 use Rattle.agree.specs.Picture.{Remembers, Within, Sound}
-use Rattle.agree.proofs.Sound.{heard-within, still-sound}
+use Rattle.agree.proofs.Sound.{heard-within, still-sound, sound-same}
 use Rattle.agree.proofs.Runs.{sound-start}
 use Rattle.fault.proofs.FaultLaws.{if-passed, if-yes, if-no}
 use Rattle.bundle.specs.Bundle.{tOf, fOf, formOf, correctOf, tableInUse, startsOf, levelOf}
@@ -52,6 +52,7 @@ use Rattle.same.proofs.Tables.{design-same}
 use Rattle.claims.specs.NoEcho.{echoTable, echoSecond, Quiet, Admits, designFor, fromV0, Never, Uses, front, beside, InV0, Configures, whole, stopped, NoEcho, Q5}
 use Rattle.claims.proofs.Thresholds.{met-by-sum}
 use Rattle.claims.proofs.FirstStep.{first-possible}
+use Rattle.claims.specs.FirstStep.{FirstPossible}
 use Rattle.claims.proofs.OneEcho.{one-enough}
 use Rattle.claims.proofs.MovedTables.{moved-same}
 
@@ -95,7 +96,7 @@ few-heard (suc (suc k)) C f c h = omega (arith, h)
 record Settled (k : ℕ) (d : Design) (w : List ℕ) : Type 0 where
   long : length w ≡ size (d .boards) (d .types) (wide k)
   quiet : Quiet k d w
-  waits : (s : Step) → stepFault k d w s ≡ 0 → s .rule ≡ 0
+  waits : (s : Step) → stepFault k d w s ≡ 0 → isStop s ≡ false → s .rule ≡ 0
 
 -- ---- the echo table forgets nothing
 module _ (k C f t : ℕ) where
@@ -201,14 +202,30 @@ module _ (k C f t : ℕ) where
       }
 
     -- ---- a step, and a run
-    step-rule : (w : List ℕ) (s : Step) → Stays w → stepFault k d w s ≡ 0 → s .rule ≡ 0
-    step-rule w s S z = by-zero s (view k d w) (view k d (stepped k d w s)) (S .shows) (step-moves k d w s (S .long) z)
+    step-rule : (w : List ℕ) (s : Step) → Stays w → stepFault k d w s ≡ 0 → isStop s ≡ false → s .rule ≡ 0
+    step-rule w s S z o = go (step-related k d w s (S .long) z)
+      where
+        go : Steps d (columnOf k d) s (view k d w) (view k d (stepped k d w s)) → s .rule ≡ 0
+        go (byRule _ m) = by-zero s (view k d w) (view k d (stepped k d w s)) (S .shows) m
+        go (byStop m) = absurd (true≢false (sym (eq-eqb (s .rule) stopRule (m .rule)) ∙ o))
 
     step-stays : (w : List ℕ) (s : Step) → Stays w → stepFault k d w s ≡ 0 → Stays (stepped k d w s)
-    step-stays w s S z = record {
-      long = length-stepped k d w s ∙ S .long;
-      shows = still s (view k d w) (view k d (stepped k d w s)) (S .shows) (step-moves k d w s (S .long) z);
-    }
+    step-stays w s S z = record { long = length-stepped k d w s ∙ S .long; shows = go (step-related k d w s (S .long) z) }
+      where
+        σ : Conf (columnOf k d .Coll)
+        σ = view k d w
+
+        σ′ : Conf (columnOf k d .Coll)
+        σ′ = view k d (stepped k d w s)
+
+        -- a stop changes nothing that is asked
+        go : Steps d (columnOf k d) s σ σ′ → Still σ′
+        go (byRule _ m) = still s σ σ′ (S .shows) m
+        go (byStop m) = record {
+          states = λ p h. m .pc p h ∙ S .shows .states p h;
+          sents = λ j h. m .sent j h ∙ S .shows .sents j h;
+          sound = sound-same k d σ σ′ (m .pc) (m .rcvd) (m .sent) (S .shows .sound);
+        }
 
     run-stays : (ss : List Step) (w : List ℕ) → Stays w → Stays (run k d w ss .left)
     run-stays ss w = run-keeps (machineOf k d) Stays step-stays w ss
@@ -222,7 +239,7 @@ module _ (k C f t : ℕ) where
 -- ---- of every table that says the same
 module _ (table : List ℕ) (E : SameTable echoTable table) (k C f t : ℕ) where
   abbrev numbers : ℕ → ℕ → Sizes
-  numbers T R = record { level = k; correct = C; faulty = f; types = T; rules = R; wide = wide k; row = T * wide k }
+  numbers T R = record { level = k; correct = C; faulty = f; types = T; rules = R; wide = wide k; row = T * wide k; tolerated = t }
 
   one-design : designFor echoTable k C f t ≡ designFor table k C f t
   one-design = design-same echoTable table E (numbers (typesOf echoTable) (rulesOf echoTable)) t refl refl ∙ (λ i. designOf (numbers (E .types i) (E .rules i)) t table)
@@ -345,9 +362,12 @@ module _ (table : List ℕ) (E : SameTable echoTable table) (b standing : List �
     unfolding afterRun
     after-run z = if-passed (λ (a : First). a ≡ First.Step p r m q) _ _ _ (refused-no-step _ _ p r m q) (read-on z ∙ h) .1
 
+    F : readFault b standing .number ≡ 0 → FirstPossible level design left
+    F z = first-possible level design left (omega (arith, read z .formed .sized .few-rules))
+
     named : readFault b standing .number ≡ 0 → (x : Found) → first level design left ≡ x → answerOf x ≡ First.Step p r m q → r ≡ 0
     named z none e g = let y : _≡_ {A = ℕ} 0 1 = cc in absurd (omega arith)
-    named z (found s) e g = let y : r ≡ s .rule = cc in y ∙ settled z .waits s (first-possible level design left .accepted s e)
+    named z (found s) e g = let y : r ≡ s .rule = cc in y ∙ settled z .waits s (F z .accepted s e) (F z .no-stop s e)
 
     firsts : r ≡ 0
     firsts = go (ℕ-discrete (readFault b standing .number) 0)

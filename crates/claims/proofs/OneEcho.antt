@@ -25,5 +25,5 @@ pub one-enough : NoEcho (asking 0) → ⊥
 unfolding state
 one-enough N =
     let e : _≡_ {A = ℕ} 2 0 =
-    sym (ap (λ (w : List ℕ). getD w 0 0) (one-enough-holds .1)) ∙ N .runs (oneEcho 1 0 3) (asking 0) (replicate 7 9) in-V0 (whole (ap (λ (a : Answer). a .refusal) (one-enough-holds .0))) .states 0 (omega arith) in
+    sym (ap (λ (w : List ℕ). getD w 0 0) (one-enough-holds .1)) ∙ N .runs (oneEcho 1 0 3) (asking 0) (replicate 8 9) in-V0 (whole (ap (λ (a : Answer). a .refusal) (one-enough-holds .0))) .states 0 (omega arith) in
     omega arith

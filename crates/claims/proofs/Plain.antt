@@ -29,6 +29,7 @@ use Rattle.translate.proofs.ReadLaws.{kept}
 use Rattle.claims.specs.Agreed.{beginIn}
 use Rattle.claims.specs.Plain.{Reached, SoAgree, PlainStep, TagTaken, PlainCounter}
 use Rattle.claims.proofs.Agreed.{all-agreed}
+use Rattle.claims.proofs.FirstAgreed.{heard-by}
 
 -- ---- none that is sent is faulty
 sent-sum : (d : Design) (w : List ℕ) (m : ℕ) → sentIn 1 d w m .correct + sentIn 1 d w m .faulty ≡ sentIn 1 d w m .correct
@@ -58,13 +59,14 @@ module _ (b standing : List ℕ) (z : readFault b standing .number ≡ 0) where
         states = A .states;
         rcvds = A .sums;
         sents = λ m hm. A .sents m hm ∙ sym (sent-sum d w m);
+        stops = A .stops;
         sound = P .sound;
       }
 
 -- ---- a step
 module _ (d : Design) (K : Remembers d) (w v : List ℕ) (X : Pictured 1 d w v) where
   so-agree : {w v : List ℕ} → Pictured 1 d w v → SoAgree d w v
-  so-agree {w} P = record { states = P .states; sums = P .rcvds; sents = λ m hm. P .sents m hm ∙ sent-sum d w m }
+  so-agree {w} P = record { states = P .states; sums = P .rcvds; sents = λ m hm. P .sents m hm ∙ sent-sum d w m; stops = P .stops }
 
   module _ (s : Step) where
     module _ (e : silent s ≡ true) where
@@ -89,7 +91,7 @@ module _ (d : Design) (K : Remembers d) (w v : List ℕ) (X : Pictured 1 d w v) 
 
       tag-back : stepFault 2 d v s ≡ 0 → (stepFault 1 d w (withSource s 0) ≡ 0) ⊎ (stepFault 1 d w (withSource s 1) ≡ 0)
       tag-back h =
-          go (lowSender 1 d w s) (low-is 1 d K w v X s (accepted 2 d v s h .arrives) e .below)
+          go (lowSender 1 d w s) (low-is 1 d K w v X s (heard-by 2 d v s e h) e .below)
           (subst (λ (t : Step). stepFault 1 d w t ≡ 0) (lowest-message 1 d s w e) (backward 1 d K w v X s h .accepted))
         where
           go : (q : ℕ) → q < 2 → stepFault 1 d w (withSource s q) ≡ 0 → (stepFault 1 d w (withSource s 0) ≡ 0) ⊎ (stepFault 1 d w (withSource s 1) ≡ 0)

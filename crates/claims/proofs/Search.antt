@@ -17,6 +17,8 @@ use Rattle.bundle.specs.Bundle.{formOf, tableInUse, levelOf}
 use Rattle.bundle.specs.Refusals.{readFault}
 use Rattle.bundle.proofs.BundleLaws.{read-by, read-within, level-same}
 use Rattle.paper.specs.Paper.{Design, Step}
+use Rattle.paper.specs.Words.{size}
+use Rattle.paper.specs.Form.{wide}
 use Rattle.paper.specs.Machine.{runBy}
 use Rattle.schedule.specs.Records.{bytesOf}
 use Rattle.schedule.proofs.RecordLaws.{length-bytes}
@@ -36,9 +38,12 @@ use Rattle.search.proofs.First.{nobody, IsFirst, walk-first}
 use Rattle.search.proofs.Endings.{Ending, already, finds, misses, halts, ending}
 use Rattle.claims.specs.Search as search
 use Rattle.claims.specs.Search.{ReachesFrom, Unreached, Asked, refusalAt, Refusals, Before, FoundFrom, Outcome, Answers, Q9}
+use Rattle.claims.specs.Demand2.{Sized}
 use Rattle.claims.proofs.Demand1.{run-read}
+use Rattle.claims.proofs.Demand2.{ran-sized}
+use Rattle.claims.proofs.FirstCall.{few-rules}
 use Rattle.claims.proofs.Demand3.{own, translated}
-use Rattle.claims.proofs.SearchOrder.{first-no-waits, none-before}
+use Rattle.claims.proofs.SearchOrder.{first-no-waits, first-no-stops, none-before}
 use Rattle.claims.proofs.SearchForms.{in-each-form}
 
 -- ---- the checks in their order
@@ -102,7 +107,7 @@ module _ (b standing : List ℕ) (depth lent : ℕ) where
   read-few : readFault b standing .number ≤ 14
   read-few = read-within (tableInUse b standing) b .number
 
-  ran-few : readFault b standing .number ≡ 0 → ranOf b standing .refusal ≤ 25
+  ran-few : readFault b standing .number ≡ 0 → ranOf b standing .refusal ≤ 27
   ran-few z = ran-within (tableInUse b standing) b (read-by b standing refl z refl) .refusal
 
   only-deep : (v : Verdict) → Faulted b standing depth lent v → v .number ≡ 34 → mostDepth < depth
@@ -231,6 +236,9 @@ module _ (b standing : List ℕ) (depth budget : ℕ) (out : List ℕ) where
     level-one : levelOf (formOf b) ≡ 1
     level-one = ap levelOf (A .counting) ∙ level-same 1 (omega arith)
 
+    long : length W ≡ size (D .boards) (D .types) (wide 1)
+    long = subst (λ (k : ℕ). Sized k D W) level-one (ran-sized b standing (A .runs .read))
+
     at-one : (ss : List Step) → ReachesFrom b standing ss → Reaches 1 D W ss
     at-one ss R = subst (λ (k : ℕ). Reaches k D W ss) level-one R
 
@@ -292,7 +300,8 @@ module _ (b standing : List ℕ) (depth budget : ℕ) (out : List ℕ) where
         reaches = so-ends q;
         no-shorter = λ i l. absurd (omega arith);
         no-waits = λ s i. absurd (nobody i);
-        first = λ ss _ _ _ f. none-first f;
+        no-stops = tt;
+        first = λ ss _ _ _ _ f. none-first f;
       };
       none = λ e. absurd (omega arith);
       none-only = λ _ f. absurd (f [] (omega arith) (so-ends q));
@@ -307,7 +316,7 @@ module _ (b standing : List ℕ) (depth budget : ℕ) (out : List ℕ) where
     by-steps : (ss : List Step) (n : ℕ) → accepts D W ≡ false → all ≡ found ss n → n ≤ budget → Says (found ss n)
     by-steps ss n q e l =
         let S : Finds D W ss depth = subst (Found D W depth) e (walk-found D depth W 0 q) in
-        let P : First D depth W ss = subst (IsFirst D depth W) e (walk-first D depth W 0 q) in
+        let P : First D depth W ss = subst (IsFirst D depth W) e (walk-first D depth W 0 long q) in
         let t : triedIn all ≡ n = ap triedIn e in
         let few : length ss ≤ mostDepth = omega (arith, S .few, A .few) in
         record {
@@ -321,7 +330,8 @@ module _ (b standing : List ℕ) (depth budget : ℕ) (out : List ℕ) where
             reaches = from-one ss (S .reaches);
             no-shorter = λ i h R. S .shorter i h (at-one (take i ss) R);
             no-waits = first-no-waits D P;
-            first = λ ts h w R. none-before D depth W ss ts P (S .reaches) (S .shorter) h w (at-one ts R);
+            no-stops = first-no-stops D (few-rules b standing (A .runs .read)) P;
+            first = λ ts h w o R. none-before D depth W ss ts P (S .reaches) (S .shorter) h w o (at-one ts R);
           };
           none = λ y. absurd (omega arith);
           none-only = λ _ f. absurd (f ss (S .few) (from-one ss (S .reaches)));
@@ -340,7 +350,7 @@ module _ (b standing : List ℕ) (depth budget : ℕ) (out : List ℕ) where
           outcomes = search.none;
           already = λ R. absurd (quiet q R);
           found = λ h. absurd (omega arith);
-          none = λ _. (omega arith, λ ss h R. none-reached D ss depth W 0 q (subst⁻¹ IsNone e tt) h (at-one ss R));
+          none = λ _. (omega arith, λ ss h R. none-reached D ss depth W 0 long q (subst⁻¹ IsNone e tt) h (at-one ss R));
           none-only = λ _ _. refl;
           spent = λ y. absurd (omega arith);
           spent-only = λ _ h. absurd (omega arith);

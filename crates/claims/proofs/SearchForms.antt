@@ -23,15 +23,11 @@ use Rattle.translate.specs.Entry.{translationOf}
 use Rattle.translate.proofs.ReadLaws.{kept}
 use Rattle.translate.proofs.LoopLaws.{low-long}
 use Rattle.search.specs.Walk.{accepts}
+use Rattle.search.proofs.None.{some-same}
 use Rattle.search.specs.Found.{Reaches}
 use Rattle.claims.specs.Demand1.{Runs}
 use Rattle.claims.specs.Search.{ReachesFrom, ReachedIn}
 use Rattle.claims.proofs.Demand3.{d, form, same-design, level-at, left-pictured}
-
-some-same : (k : ℕ) (P Q : ℕ → Bool) → ((i : ℕ) → i < k → P i ≡ Q i) → some k P ≡ some k Q
-unfolding some
-some-same zero P Q e = refl
-some-same (suc k) P Q e = ap₂ _||_ (some-same k P Q (λ i h. e i (omega arith))) (e k (le-refl (suc k)))
 
 -- ---- neighbours
 module _ (j : ℕ) (d : Design) (K : Remembers d) (w v : List ℕ) (X : Pictured j d w v) where

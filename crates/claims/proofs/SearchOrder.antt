@@ -8,16 +8,19 @@ use native.Mathlib.Omega.{arith}
 use lib.Dec.{eqb}
 use lib.ListN.{length, take}
 use Rattle.fault.specs.Fault.{_if_else_}
-use Rattle.paper.specs.Paper.{Design, Step, alone, silent, kindOf}
+use borrow.Author.Tests.{ne-eqb}
+use Rattle.paper.specs.Paper.{Design, Step, alone, silent, kindOf, stopRule}
+use Rattle.stops.specs.Stops.{NoStops}
 use Rattle.paper.specs.Step.{stepped}
 use Rattle.paper.specs.Order.{isWait}
-use Rattle.paper.proofs.StepLaws.{accepted}
 use Rattle.paper.proofs.OrderLaws.{message-waits}
 use Rattle.tries.specs.Tries.{each, ofType, silently, ofRule, ofBoard, allTries, In, here, there}
 use Rattle.search.specs.Found.{Reaches, First, last, step}
 use Rattle.search.proofs.Members.{in-right, tried}
 use Rattle.search.proofs.First.{nobody}
-use Rattle.search.proofs.None.{first-accepted, rest-reaches, reaches-first}
+use Rattle.search.proofs.None.{by-rule, first-accepted, rest-reaches, reaches-first}
+use Rattle.tries.proofs.PlaceLaws.{places-start}
+use Rattle.tries.proofs.MemberLaws.{placed-rule}
 use Rattle.claims.specs.FirstStep.{EarlierMessage, noMessage, lowerType, lowerSource, Earlier, lowerBoard, lowerRule, message}
 use Rattle.claims.specs.Search.{Before, shorter, earlier, later, NoWaits}
 
@@ -202,14 +205,21 @@ module _ (d : Design) where
   first-no-waits (step {w} {k} {s} {ss} before rest e f F) t here = no-wait d t (subst (In t) (sym e) (in-right before (t ∷ rest) here))
   first-no-waits (step {w} {k} {s} {ss} before rest e f F) t (there i) = first-no-waits F t i
 
+  -- its rules are the design's, none of which is that of a stop
+  pub first-no-stops : d .rules ≤ stopRule → {k : ℕ} {w : List ℕ} {ss : List Step} → First d k w ss → NoStops ss
+  first-no-stops few last = tt
+  first-no-stops few (step {w} {k} {s} {ss} before rest e f F) =
+      let l = placed-rule d 0 0 0 (subst (In s) (sym (places-start d ∙ e)) (in-right before (s ∷ rest) here)) in
+      (ne-eqb (s .rule) stopRule (λ z. omega (arith, few, l, z)), first-no-stops few F)
+
   pub none-before : (k : ℕ) (w : List ℕ) (ss ts : List Step) → First d k w ss → Reaches 1 d w ss → ((i : ℕ) → i < length ss → Reaches 1 d w (take i ss) → ⊥)
-      → length ts ≤ k → NoWaits d ts → Reaches 1 d w ts → Before ts ss → ⊥
-  none-before k w (s ∷ ss) [] F R short l n T shorter = short 0 (omega arith) T
-  none-before (suc k) w (s ∷ ss) (t ∷ ts) (step before rest e f F) R short l n T (earlier b) =
+      → length ts ≤ k → NoWaits d ts → NoStops ts → Reaches 1 d w ts → Before ts ss → ⊥
+  none-before k w (s ∷ ss) [] F R short l n a T shorter = short 0 (omega arith) T
+  none-before (suc k) w (s ∷ ss) (t ∷ ts) (step before rest e f F) R short l n a T (earlier b) =
       let z = first-accepted d w t ts T in
-      in-either t before (s ∷ rest) (subst (In t) e (tried d w t (accepted 1 d w t z) (n t here))) (λ i. f t i ts (omega arith) T)
+      in-either t before (s ∷ rest) (subst (In t) e (tried d w t (by-rule d w t (a .0) z) (n t here))) (λ i. f t i ts (omega arith) T)
       (λ i. in-cons t s rest i (λ q. not-itself s (subst (λ (x : Step). Earlier x s) q b)) (λ j. behind before s rest (subst Ordered e ordered) t j b))
-  none-before (suc k) w (s ∷ ss) (t ∷ ts) (step before rest e f F) R short l n T (later b) =
+  none-before (suc k) w (s ∷ ss) (t ∷ ts) (step before rest e f F) R short l n a T (later b) =
       let z = first-accepted d w s ss R in
-      none-before k (stepped 1 d w s) ss ts F (rest-reaches d w s ss z R) (λ i h Q. short (suc i) (omega arith) (reaches-first d w s (take i ss) z Q)) (omega arith) (λ x i. n x (there i))
+      none-before k (stepped 1 d w s) ss ts F (rest-reaches d w s ss z R) (λ i h Q. short (suc i) (omega arith) (reaches-first d w s (take i ss) z Q)) (omega arith) (λ x i. n x (there i)) (a .1)
       (rest-reaches d w s ts z T) b

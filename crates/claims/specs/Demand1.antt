@@ -28,7 +28,7 @@ roomIn b standing = roomOf (sizesIn b standing)
 
 -- the refusals of a step (outline, "Numbers given back")
 abbrev pub OfStep : ℕ → Type 0
-OfStep n = (20 ≤ n) × (n ≤ 25)
+OfStep n = (20 ≤ n) × (n ≤ 27)
 
 -- ---- a run in the words lent, with its answer a and the words u that it leaves
 pub record RunOf (b standing lent : List ℕ) (a : Answer) (u : List ℕ) : Type 0 where

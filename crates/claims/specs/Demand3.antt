@@ -1,5 +1,5 @@
 -- Demand 3, for bundles as the calls see them: if a schedule runs, its translation to each other form is written and runs, with equal
--- board states, counts (or sums of them) and sent counts after every step; from a coarser form to a finer one and back are the same
+-- board states, counts (or sums of them), sent counts and stopped boards after every step; from a coarser form to a finer one and back are the same
 -- bytes; what running refuses, translation refuses with the same number and place. Proofs: proofs/Demand3.antt.
 use mathlib.Core.Path.{_≡_}
 use mathlib.Core.Bool.{true, false}
@@ -12,7 +12,7 @@ use Rattle.bundle.specs.Bundle.{nOf, tOf, fOf, formOf, correctOf, tableInUse, s
 use Rattle.bundle.specs.Refusals.{readFault}
 use Rattle.paper.specs.Paper.{Design}
 use Rattle.paper.specs.Words.{state}
-use Rattle.paper.specs.Step.{columnOf, sentIn, countOf}
+use Rattle.paper.specs.Step.{columnOf, sentIn, countOf, stoppedIn}
 use Rattle.agree.specs.Translation.{tagged, lowest}
 use Rattle.agree.specs.Picture.{Pictured}
 use Rattle.engine.specs.Design.{designIn, sizesIn}
@@ -20,12 +20,12 @@ use Rattle.engine.specs.Entry.{ranOf, runAnswer}
 use Rattle.translate.specs.Entry.{translationOf, noOther, translateToAnswer, translateToBytes, usual, translateAnswer, translateBytes}
 use Rattle.paper.specs.Order.{Found, none, found, first}
 use Rattle.first_step.specs.Entry.{answerOf, firstAnswer}
-use Rattle.words.specs.Words.{correctIn, faultyIn, sentCountIn}
+use Rattle.words.specs.Words.{correctIn, faultyIn, sentCountIn, stoppedOf}
 use Rattle.words.specs.Facts.{mostWords}
 use Rattle.claims.specs.Demand1.{Runs, afterIn}
 
 -- of a bundle beside its standing table: the types; and after the first i steps, the messages of type m that board p has received from
--- correct and from faulty boards, and those that were sent, as a report shows them
+-- correct and from faulty boards, those that were sent, and the set of stopped boards, as a report shows them
 abbrev pub typesIn : List ℕ → List ℕ → ℕ
 typesIn b standing = sizesIn b standing .types
 
@@ -38,11 +38,15 @@ faultyAfter b standing i p m = faultyIn (sizesIn b standing) (afterIn b standing
 abbrev pub sentAfter : List ℕ → List ℕ → ℕ → ℕ → ℕ
 sentAfter b standing i m = sentCountIn (sizesIn b standing) (afterIn b standing i) m
 
--- words w of level i and words v of level k: equal states, equal counts of each type, whatever they are made of, equal sent counts
+abbrev pub stoppedAfter : List ℕ → List ℕ → ℕ → ℕ
+stoppedAfter b standing i = stoppedOf (sizesIn b standing) (afterIn b standing i)
+
+-- words w of level i and words v of level k: equal states, equal counts of each type, whatever they are made of, equal sent counts, the same boards stopped
 pub record Alike (d : Design) (i : ℕ) (w : List ℕ) (k : ℕ) (v : List ℕ) : Type 0 where
   pub states : (p : ℕ) → p < d .boards → state w p ≡ state v p
   pub counts : (p m : ℕ) → p < d .boards → m < d .types → countOf i d w p m ≡ countOf k d v p m
   pub sents : (m : ℕ) → m < d .types → columnOf i d .card (sentIn i d w m) ≡ columnOf k d .card (sentIn k d v m)
+  pub stops : stoppedIn i d w ≡ stoppedIn k d v
 
 -- ---- a bundle b that runs, and its translation c to the form k
 pub record Translated (b standing : List ℕ) (k : ℕ) (c : List ℕ) : Type 0 where
@@ -68,11 +72,12 @@ pub record SideBySide (b standing c : List ℕ) : Type 0 where
   pub answered : (lent : ℕ) → length b ≤ lent → translateAnswer b standing lent ≡ record { refusal = 0; place = 0; count = length b }
   pub written : (out : List ℕ) → length b ≤ length out → translateBytes b standing out ≡ c ++ drop (length b) out
   pub runs : Runs c standing
-  -- after every number i of steps, for each correct board p and type m: equal states, correct counts, faulty counts and sent counts
+  -- after every number i of steps, for each correct board p and type m: equal states, correct counts, faulty counts and sent counts, and the same boards stopped
   pub states : (i p : ℕ) → p < correctOf b → state (afterIn b standing i) p ≡ state (afterIn c standing i) p
   pub corrects : (i p m : ℕ) → p < correctOf b → m < typesIn b standing → correctAfter b standing i p m ≡ correctAfter c standing i p m
   pub faulties : (i p m : ℕ) → p < correctOf b → m < typesIn b standing → faultyAfter b standing i p m ≡ faultyAfter c standing i p m
   pub sents : (i m : ℕ) → m < typesIn b standing → sentAfter b standing i m ≡ sentAfter c standing i m
+  pub stops : (i : ℕ) → stoppedAfter b standing i ≡ stoppedAfter c standing i
 
 -- ---- a bundle that runs in form j, as c, and in form j + 1, as e: the picture of the paper, after every number of steps, and the same
 -- first possible step, translated as one step more would be, or none in both

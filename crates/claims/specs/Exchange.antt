@@ -8,7 +8,7 @@ use lib.ListN.{length, drop}
 use Rattle.bundle.specs.Refusals.{readFault}
 use Rattle.paper.specs.Step.{stepFault}
 use Rattle.paper.specs.Run.{stepAt}
-use Rattle.exchange.specs.Exchange.{exchangedSteps, exchanged, Exchange}
+use Rattle.exchange.specs.Exchange.{exchangedSteps, exchanged, Exchange, RoomForBoth}
 use Rattle.engine.specs.Design.{sizesIn, designIn}
 use Rattle.engine.specs.Entry.{scheduleOf, ranOf, runAnswer, runWords}
 use Rattle.first_step.specs.declared.First.{First}
@@ -22,6 +22,10 @@ OfTwoBoards b i = stepAt (scheduleOf b) i .board ≢ stepAt (scheduleOf b) (suc 
 -- step j is accepted from the configuration after i steps (Q-10)
 abbrev pub AcceptedAfter : List ℕ → List ℕ → ℕ → ℕ → Type 0
 AcceptedAfter b standing i j = stepFault (sizesIn b standing .level) (designIn b standing) (afterIn b standing i) (stepAt (scheduleOf b) j) ≡ 0
+
+-- and if both are stops, then both may stop (Q-11)
+abbrev pub RoomAfter : List ℕ → List ℕ → ℕ → Type 0
+RoomAfter b standing i = RoomForBoth (sizesIn b standing .level) (designIn b standing) (afterIn b standing i) (stepAt (scheduleOf b) i) (stepAt (scheduleOf b) (suc i))
 
 -- the same answer and the same words from `run`, whatever is lent, and the same answer from `first_step` (Q-10)
 pub record SameCalls (c b standing : List ℕ) : Type 0 where
@@ -40,9 +44,9 @@ pub record Q10 : Type 0 where
   pub steps : Exchange
   -- for every bundle that is read beside a standing table: its schedule has the two steps exchanged
   pub schedule : (b standing : List ℕ) (i : ℕ) → readFault b standing .number ≡ 0 → suc i < length (scheduleOf b) → scheduleOf (exchanged i b) ≡ exchangedSteps i (scheduleOf b)
-  -- both are accepted from the configuration after i steps: exchanged, the calls give the same, whatever comes of the other steps
+  -- both are accepted from the configuration after i steps, and are not two stops where only one may be: exchanged, the calls give the same, whatever comes of the other steps
   pub calls : (b standing : List ℕ) (i : ℕ) → readFault b standing .number ≡ 0 → suc i < length (scheduleOf b) → OfTwoBoards b i
-      → AcceptedAfter b standing i i → AcceptedAfter b standing i (suc i) → SameCalls (exchanged i b) b standing
+      → AcceptedAfter b standing i i → AcceptedAfter b standing i (suc i) → RoomAfter b standing i → SameCalls (exchanged i b) b standing
   -- both are accepted, and step i + 1 only after step i: exchanged, the calls refuse it with 24
   pub refused : (b standing : List ℕ) (i : ℕ) → readFault b standing .number ≡ 0 → suc i < ranOf b standing .accepted → OfTwoBoards b i
       → (AcceptedAfter b standing i (suc i) → ⊥) → NotHeard (exchanged i b) b standing i

@@ -13,3 +13,4 @@ pub mod Replay
 pub mod Editions
 pub mod Search
 pub mod Exchange
+pub mod Stops

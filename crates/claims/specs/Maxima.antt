@@ -26,12 +26,12 @@ longest = largest ++ replicate 64 15 ++ times 4096 (0 ∷ 0 ∷ 255 ∷ 255 ∷ 
 
 pub record Maxima : Type 0 where
   -- so many are enough: words of a configuration, bytes of a table, of its drawing and of a bundle
-  pub words : (b standing : List ℕ) → readFault b standing .number ≡ 0 → roomIn b standing ≤ 580
+  pub words : (b standing : List ℕ) → readFault b standing .number ≡ 0 → roomIn b standing ≤ 581
   pub table : (s : List ℕ) → tableFault s .number ≡ 0 → length s ≤ 1192
   pub drawing : (s : List ℕ) → tableFault s .number ≡ 0 → length (drawingOf s) ≤ 6286
   pub bundle : (b standing : List ℕ) → readFault b standing .number ≡ 0 → length b ≤ 17648
   -- and they are reached, all four by one bundle that is read and its table
-  pub words-reached : (readFault longest [] .number ≡ 0) × (roomIn longest [] ≡ 580)
+  pub words-reached : (readFault longest [] .number ≡ 0) × (roomIn longest [] ≡ 581)
   pub table-reached : (tableFault largest .number ≡ 0) × (length largest ≡ 1192)
   pub drawing-reached : length (drawingOf largest) ≡ 6286
   pub bundle-reached : length longest ≡ 17648

@@ -1,6 +1,7 @@
 -- Q-5, "No echo from nothing": property (b) of the source's introduction. Where every board starts in V0, no schedule of the echo table
 -- brings a board to SE or AC, in any form, and nothing is ever sent; in either edition (Q-7). Proofs: proofs/NoEcho.antt.
 use mathlib.Core.Path.{_≡_}
+use mathlib.Core.Bool.{false}
 use mathlib.Core.List.{List, [], _∷_}
 use Prim.Native.Nat.{ℕ, _+_, _*_, _≤_, _<_}
 use lib.ListN.{length, take, set, replicate}
@@ -8,7 +9,7 @@ use Rattle.fault.specs.Bytes.{byteAt}
 use Rattle.layout.specs.Layout.{second}
 use Rattle.table.specs.Table.{rulesOf, typesByte, typesOf, factorOf}
 use Rattle.bundle.specs.Bundle.{formOf, correctOf, frontLength, startsOf, levelOf}
-use Rattle.paper.specs.Paper.{Design, Step}
+use Rattle.paper.specs.Paper.{Design, Step, isStop}
 use Rattle.paper.specs.Words.{state, sent, start}
 use Rattle.paper.specs.Form.{wide}
 use Rattle.paper.specs.Step.{columnOf, sentIn, countOf, stepFault}
@@ -48,7 +49,7 @@ pub record Admits (table : List ℕ) (C f t : ℕ) : Type 0 where
 
 abbrev pub designFor : List ℕ → ℕ → ℕ → ℕ → ℕ → Design
 designFor table k C f t =
-    designOf (record { level = k; correct = C; faulty = f; types = typesOf table; rules = rulesOf table; wide = wide k; row = typesOf table * wide k }) t table
+    designOf (record { level = k; correct = C; faulty = f; types = typesOf table; rules = rulesOf table; wide = wide k; row = typesOf table * wide k; tolerated = t }) t table
 
 -- the start of all boards in V0
 abbrev pub fromV0 : List ℕ → ℕ → ℕ → List ℕ
@@ -59,8 +60,8 @@ pub record Never (k : ℕ) (d : Design) (w : List ℕ) (ss : List Step) : Type 0
   -- after each number of steps, and with what the whole run leaves
   pub reached : (i : ℕ) → Quiet k d (after k d w ss i)
   pub left : Quiet k d (run k d w ss .left)
-  -- where the only rule that can follow is rule 0, the wait in V0
-  pub waits : (s : Step) → stepFault k d (run k d w ss .left) s ≡ 0 → s .rule ≡ 0
+  -- where the only rule that can follow, but for a stop, is rule 0, the wait in V0
+  pub waits : (s : Step) → stepFault k d (run k d w ss .left) s ≡ 0 → isStop s ≡ false → s .rule ≡ 0
 
 -- ---- about the calls
 -- the table in use: the front, or the standing table beside an empty front
@@ -76,7 +77,7 @@ pub record InV0 (table b standing : List ℕ) : Type 0 where
 -- the refusals with which `run` leaves a configuration: none, or that of a step (outline, "Numbers given back")
 pub data Configures (refusal : ℕ) : Type 0 where
   whole : refusal ≡ 0 → Configures refusal
-  stopped : 20 ≤ refusal → refusal ≤ 25 → Configures refusal
+  stopped : 20 ≤ refusal → refusal ≤ 27 → Configures refusal
 
 -- ---- the claim, for a table
 pub record NoEcho (table : List ℕ) : Type 0 where

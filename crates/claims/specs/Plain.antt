@@ -1,6 +1,6 @@
 -- Q-4: Figure 1's own counter against the counting form. From reached configurations that so agree, a step in form 2 is accepted
 -- exactly when one of the two tags (the same step, if it has no message) is accepted by the counting form, and states, sums of the
--- two counts and sent counts agree after every step; and translation from form 2 takes the correct tag where that is in transit,
+-- two counts, sent counts and stopped boards agree after every step; and translation from form 2 takes the correct tag where that is in transit,
 -- otherwise the faulty one. Proofs: proofs/Plain.antt.
 use mathlib.Core.Path.{_≡_}
 use mathlib.Core.Logic.{_⊎_}
@@ -10,7 +10,7 @@ use Prim.Native.Nat.{ℕ, _+_, _<_}
 use Rattle.bundle.specs.Refusals.{readFault}
 use Rattle.paper.specs.Paper.{Design, Step, silent}
 use Rattle.paper.specs.Words.{state}
-use Rattle.paper.specs.Step.{columnOf, rcvdIn, sentIn, stepFault, stepped}
+use Rattle.paper.specs.Step.{columnOf, rcvdIn, sentIn, stepFault, stepped, stoppedIn}
 use Rattle.paper.specs.Run.{run}
 use Rattle.agree.specs.Translation.{withSource, lowSender}
 use Rattle.engine.specs.Design.{designIn}
@@ -27,6 +27,7 @@ pub record SoAgree (d : Design) (w v : List ℕ) : Type 0 where
   pub states : (p : ℕ) → p < d .boards → state v p ≡ state w p
   pub sums : (p m : ℕ) → p < d .boards → m < d .types → rcvdIn 2 d v p m ≡ rcvdIn 1 d w p m .correct + rcvdIn 1 d w p m .faulty
   pub sents : (m : ℕ) → m < d .types → sentIn 2 d v m ≡ sentIn 1 d w m .correct
+  pub stops : stoppedIn 2 d v ≡ stoppedIn 1 d w
 
 -- a step s in form 2, from there
 pub record PlainStep (d : Design) (w v : List ℕ) (s : Step) : Type 0 where

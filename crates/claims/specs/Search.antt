@@ -11,6 +11,7 @@ use Rattle.bundle.specs.Bundle.{formOf}
 use Rattle.bundle.specs.Refusals.{readFault}
 use Rattle.paper.specs.Paper.{Design, Step}
 use Rattle.paper.specs.Order.{isWait}
+use Rattle.stops.specs.Stops.{NoStops}
 use Rattle.schedule.specs.Records.{bytesOf}
 use Rattle.words.specs.Facts.{mostWords}
 use Rattle.engine.specs.Design.{sizesIn, designIn}
@@ -95,9 +96,10 @@ pub record FoundFrom (b standing : List ℕ) (depth : ℕ) (out : List ℕ) (a :
   -- it runs and ends with a board in an accepting state, and no shorter beginning of it does
   pub reaches : ReachesFrom b standing steps
   pub no-shorter : (i : ℕ) → i < length steps → ReachesFrom b standing (take i steps) → ⊥
-  -- it has no waits, and of the schedules without waits that do so none comes before it
+  -- it has no waits and no stops, and of the schedules without these that do so none comes before it
   pub no-waits : NoWaits (designIn b standing) steps
-  pub first : (ss : List Step) → length ss ≤ depth → NoWaits (designIn b standing) ss → ReachesFrom b standing ss → Before ss steps → ⊥
+  pub no-stops : NoStops steps
+  pub first : (ss : List Step) → length ss ≤ depth → NoWaits (designIn b standing) ss → NoStops ss → ReachesFrom b standing ss → Before ss steps → ⊥
 
 -- the outcomes that there are
 pub data Outcome (depth : ℕ) : ℕ → Type 0 where

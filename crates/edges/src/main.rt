@@ -33,8 +33,8 @@ fn main() {
     rules();
     starts();
     lent(0);
-    lent(6);
     lent(7);
+    lent(8);
     lent(9);
 }
 
@@ -153,7 +153,7 @@ fn starts() {
     changed(1, 30, 255, 0, 0, 0, 0);
 }
 
-// W in a lent part of nine words, of which it needs seven: the answer, then all nine.
+// W in a lent part of nine words, of which it needs eight: the answer, then all nine.
 fn lent(n: usize) {
     let bundle = echo::schedule();
     let standing = echo::table();

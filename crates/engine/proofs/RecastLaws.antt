@@ -201,7 +201,8 @@ module _ {b : List ℕ} (standing : List ℕ) (R : Read (tableInUse b standing) 
       let k = sym (new-form table b R X) in
       let c = sym (same-correct table b R X) in
       let f = sym (same-f table b R X) in
-      λ i. record { level = levelOf (k i); correct = c i; faulty = f i; types = typesOf (e i); rules = rulesOf (e i); wide = wide (levelOf (k i)); row = typesOf (e i) * wide (levelOf (k i)) }
+      let t = sym (same-t table b R X) in
+      λ i. record { level = levelOf (k i); correct = c i; faulty = f i; types = typesOf (e i); rules = rulesOf (e i); wide = wide (levelOf (k i)); row = typesOf (e i) * wide (levelOf (k i)); tolerated = t i }
 
   pub recast-design : designIn b standing ≡ designIn x standing
   recast-design =

@@ -52,18 +52,18 @@ module _ (s : Sizes) (starts : List ℕ) (l : length starts ≡ s .correct) wher
   unfolding size
   boards-fit = omega (arith, l)
 
-  -- the zeros past the starts are the cells and the sent words
+  -- the zeros past the starts are the cells, the sent words and the stopped boards
   pub begun : {v u : List ℕ} (n : ℕ) → n ≡ roomOf s → v ≡ replicate n 0 → u ≡ starts ++ drop (length starts) v → u ≡ first
   unfolding start size
   begun n h f g =
       let C = length starts in
-      let k = C * s .types * wide (s .level) + s .types in
+      let k = C * s .types * wide (s .level) + s .types + 1 in
       let e : n ≡ C + k = rw l (h ∙ omega arith) in
       g ∙ ap (λ (x : List ℕ). starts ++ x) (ap (drop C) (f ∙ ap (λ (i : ℕ). replicate i 0) e ∙ sym (replicate-append-replicate C k 0)) ∙ drop-at (replicate C 0) (replicate k 0) C (length-replicate C 0))
 
   -- a start is a byte
   pub first-holds : ((i : ℕ) → getD starts i 0 < 256) → Holds s 256 first
-  first-holds b = record { fits = length-start (s .correct) (s .types) (wide (s .level)) starts l; small = λ n i. go i (decLt i (s .correct)) }
+  first-holds b = record { fits = length-start (s .correct) (s .types) (wide (s .level)) starts l; small = λ n i _. go i (decLt i (s .correct)) }
     where
       go : (i : ℕ) → Dec (i < s .correct) → getD first i 0 ≤ 256
       go i (yes h) = omega (arith, start-low (s .correct) (s .types) (wide (s .level)) starts l i h, b i)

@@ -10,7 +10,7 @@ use Rattle.rules.specs.Design.{designOf}
 
 -- the numbers that stepping goes by, from the trailers of the table and the bundle
 abbrev pub sizesOf : List ℕ → List ℕ → Sizes
-sizesOf table b = record { level = levelOf (formOf b); correct = correctOf b; faulty = fOf b; types = typesOf table; rules = rulesOf table; wide = wide (levelOf (formOf b)); row = typesOf table * wide (levelOf (formOf b)) }
+sizesOf table b = record { level = levelOf (formOf b); correct = correctOf b; faulty = fOf b; types = typesOf table; rules = rulesOf table; wide = wide (levelOf (formOf b)); row = typesOf table * wide (levelOf (formOf b)); tolerated = tOf b }
 
 abbrev pub designWith : List ℕ → List ℕ → Design
 designWith table b = designOf (sizesOf table b) (tOf b) table

@@ -73,6 +73,7 @@ pub fn open<'a>(bundle: &'a [u8], standing: &'a [u8], ends: &mut [u8], leasts: &
             rules: 0,
             wide: 0,
             row: 0,
+            tolerated: 0,
         };
         return Opened {
             number: v.number,
@@ -106,6 +107,7 @@ fn sizes_of(table: &[u8], bundle: &[u8]) -> Sizes
         rules: table::rules(table),
         wide,
         row: fault::times(types, wide),
+        tolerated: bundle::t(bundle),
     }
 }
 

@@ -1,4 +1,5 @@
 pub mod Changes
 pub mod Parts
+pub mod Stops
 pub mod Exchange
 pub mod Runs

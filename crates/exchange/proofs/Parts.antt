@@ -1,6 +1,6 @@
--- A step, part by part: it changes words of its own board (its state, a cell), and it adds to the sent words of the types that are new. So what each of these keeps, the
--- step keeps, by one induction; Q-10 looks at no more than this. If steps get one more part, it is one more field of `Kept`, and each use says how that part keeps it. No law asks
--- how many words there are: past the end, a change changes nothing.
+-- A step, part by part: by a rule, it changes words of its own board (its state, a cell), and it adds to the sent words of the types that are new; a stop adds its board to the
+-- stopped ones. So what each of these keeps, the step keeps, by one induction; Q-10 looks at no more than this. If steps get one more part, it is one more field of `Kept`, and each
+-- use says how that part keeps it. No law asks how many words there are: past the end, a change changes nothing.
 use mathlib.Core.Path.{_≡_, refl, sym, _∙_}
 use mathlib.Core.Logic.{_≢_}
 use mathlib.Core.Bool.{Bool, true, false}
@@ -8,11 +8,12 @@ use mathlib.Core.List.{List}
 use Prim.Native.Nat.{ℕ, zero, suc, _≤_, _<_}
 use native.Mathlib.Nat.{le-refl}
 use native.Mathlib.Omega.{arith}
+use Rattle.senders.specs.Set.{insert}
 use Rattle.fault.specs.Fault.{_if_else_}
-use Rattle.paper.specs.Paper.{Design, Step, newly, silent, Kind}
-use Rattle.paper.specs.Words.{cellAt, sentAt, cell, sent, hear, tell}
+use Rattle.paper.specs.Paper.{Design, Step, newly, silent, isStop, Kind}
+use Rattle.paper.specs.Words.{cellAt, sentAt, stoppedAt, cell, sent, stopped, hear, tell, stop}
 use Rattle.paper.specs.Form.{wide, slot, bump}
-use Rattle.paper.specs.Step.{columnOf, receipt, heard, stepped}
+use Rattle.paper.specs.Step.{columnOf, receipt, heard, taken, stepped}
 use Rattle.paper.proofs.WordLaws.{cell-below, cell-above, cell-inj}
 use Rattle.paper.proofs.FormLaws.{slot-below}
 use Rattle.paper.proofs.StepLaws.{by-kind, Named}
@@ -25,6 +26,9 @@ module _ (k : ℕ) (d : Design) where
   abbrev pub sentOf : ℕ → ℕ
   sentOf m = sentAt (d .boards) (d .types) (wide k) m
 
+  abbrev pub stoppedOf : ℕ
+  stoppedOf = stoppedAt (d .boards) (d .types) (wide k)
+
   -- ---- the places of board p
   pub data Place (p i : ℕ) : Type 0 where
     stateOf : i ≡ p → Place p i
@@ -35,6 +39,16 @@ module _ (k : ℕ) (d : Design) where
   unfolding sentAt
   not-sent p i m h (stateOf e) = omega arith
   not-sent p i m h (cellOf n e hn he q) = omega (arith, cell-below (d .boards) (d .types) (wide k) p n e h hn he)
+
+  -- none is that of the stopped boards, and no sent word is there either
+  pub not-stopped : (p i : ℕ) → p < d .boards → Place p i → i ≢ stoppedOf
+  unfolding sentAt stoppedAt
+  not-stopped p i h (stateOf e) = omega arith
+  not-stopped p i h (cellOf n e hn he q) = omega (arith, cell-below (d .boards) (d .types) (wide k) p n e h hn he)
+
+  pub sent-not-stopped : (m : ℕ) → m < d .types → sentOf m ≢ stoppedOf
+  unfolding sentAt stoppedAt
+  sent-not-stopped m h = omega arith
 
   -- and none is that of another board
   pub apart : (p q i j : ℕ) → p < d .boards → q < d .boards → p ≢ q → Place p i → Place q j → i ≢ j
@@ -59,6 +73,7 @@ module _ (k : ℕ) (d : Design) where
   pub record Kept (s : Step) (R : List ℕ → List ℕ → Type 0) : Type 0 where
     pub own : (i : ℕ) (g : ℕ → ℕ) (w u : List ℕ) → Place (s .board) i → R w u → R (change i g w) (change i g u)
     pub sends : (m : ℕ) (w u : List ℕ) → m < d .types → new s m ≡ true → R w u → R (change (sentOf m) (adds s) w) (change (sentOf m) (adds s) u)
+    pub stops : (w u : List ℕ) → isStop s ≡ true → R w u → R (change stoppedOf (insert (s .board)) w) (change stoppedOf (insert (s .board)) u)
 
   module _ (s : Step) (F : Formed s) (R : List ℕ → List ℕ → Type 0) (K : Kept s R) where
     pub heard-kept : (w u : List ℕ) → R w u → R (heard k d w s) (heard k d u s)
@@ -77,6 +92,14 @@ module _ (k : ℕ) (d : Design) where
         go {v} {v′} true e r = K .sends n v v′ l e r
         go false e r = r
 
+    taken-kept : (w u : List ℕ) → R w u → R (taken k d w s) (taken k d u s)
+    unfolding taken
+    taken-kept w u r = told-kept (d .types) _ _ (le-refl (d .types)) (K .own (s .board) (λ v. d .to (s .rule)) _ _ (stateOf refl) (heard-kept w u r))
+
     pub step-kept : (w u : List ℕ) → R w u → R (stepped k d w s) (stepped k d u s)
-    unfolding stepped
-    step-kept w u r = told-kept (d .types) _ _ (le-refl (d .types)) (K .own (s .board) (λ v. d .to (s .rule)) _ _ (stateOf refl) (heard-kept w u r))
+    unfolding stepped stop stopped _if_else_
+    step-kept w u r = go (isStop s) refl
+      where
+        go : (b : Bool) → isStop s ≡ b → R (change stoppedOf (insert (s .board)) w if b else taken k d w s) (change stoppedOf (insert (s .board)) u if b else taken k d u s)
+        go true e = K .stops w u e r
+        go false e = taken-kept w u r

@@ -12,7 +12,8 @@ use Rattle.paper.specs.Step.{stepFault, stepped}
 use Rattle.paper.specs.Machine.{runBy, oneMore}
 use Rattle.paper.specs.Run.{Ran, run, stepAt, after}
 use Rattle.paper.proofs.RunLaws.{ranTo, run-goes, run-stops, after-goes}
-use Rattle.exchange.specs.Exchange.{exchangedSteps, Exchange}
+use Rattle.exchange.specs.Exchange.{exchangedSteps, RoomForBoth, Exchange}
+use Rattle.exchange.proofs.Stops.{two-stops}
 use Rattle.exchange.proofs.Exchange.{either-order, hears-first}
 
 module _ (k : ℕ) (d : Design) where
@@ -20,25 +21,31 @@ module _ (k : ℕ) (d : Design) where
   abbrev Free : List ℕ → List Step → ℕ → ℕ → Type 0
   Free w ss i j = stepFault k d (after k d w ss i) (stepAt ss j) ≡ 0
 
+  -- and room for steps i and i + 1 from there
+  abbrev Room : List ℕ → List Step → ℕ → Type 0
+  Room w ss i = RoomForBoth k d (after k d w ss i) (stepAt ss i) (stepAt ss (suc i))
+
   two : (w : List ℕ) (x y : Step) (ss : List Step) → stepFault k d w x ≡ 0 → stepFault k d (stepped k d w x) y ≡ 0
       → run k d w (x ∷ y ∷ ss) ≡ oneMore (oneMore (run k d (stepped k d (stepped k d w x) y) ss))
   two w x y ss p q = run-goes k d w x (y ∷ ss) p ∙ ap oneMore (run-goes k d (stepped k d w x) y ss q)
 
-  same-run : (w : List ℕ) (ss : List Step) (i : ℕ) → suc i < length ss → stepAt ss i .board ≢ stepAt ss (suc i) .board → Free w ss i i → Free w ss i (suc i)
+  same-run : (w : List ℕ) (ss : List Step) (i : ℕ) → suc i < length ss → stepAt ss i .board ≢ stepAt ss (suc i) .board → Free w ss i i → Free w ss i (suc i) → Room w ss i
       → run k d w (exchangedSteps i ss) ≡ run k d w ss
   unfolding exchangedSteps runBy
-  same-run w [] i l o p q = refl
-  same-run w (x ∷ []) zero l o p q = refl
-  same-run w (x ∷ y ∷ ss) zero l o p q =
-      let E = either-order k d w x y o p q in
+  same-run w [] i l o p q r = refl
+  same-run w (x ∷ []) zero l o p q r = refl
+  same-run w (x ∷ y ∷ ss) zero l o p q r =
+      let E = either-order k d w x y o p q r in
       two w y x ss q (E .x-after-y) ∙ ap (λ (v : List ℕ). oneMore (oneMore (run k d v ss))) (sym (E .same-words)) ∙ sym (two w x y ss p (E .y-after-x))
-  same-run w (s ∷ ss) (suc i) l o p q = go (ℕ-discrete (stepFault k d w s) 0) (same-run (stepped k d w s) ss i (le-of-suc-le-suc l) o)
+  same-run w (s ∷ ss) (suc i) l o p q r = go (ℕ-discrete (stepFault k d w s) 0) (same-run (stepped k d w s) ss i (le-of-suc-le-suc l) o)
     where
-      go : Dec (stepFault k d w s ≡ 0) → (Free (stepped k d w s) ss i i → Free (stepped k d w s) ss i (suc i) → run k d (stepped k d w s) (exchangedSteps i ss) ≡ run k d (stepped k d w s) ss)
-          → run k d w (s ∷ exchangedSteps i ss) ≡ run k d w (s ∷ ss)
+      go : Dec (stepFault k d w s ≡ 0) → (Free (stepped k d w s) ss i i → Free (stepped k d w s) ss i (suc i) → Room (stepped k d w s) ss i
+          → run k d (stepped k d w s) (exchangedSteps i ss) ≡ run k d (stepped k d w s) ss) → run k d w (s ∷ exchangedSteps i ss) ≡ run k d w (s ∷ ss)
       go (yes z) ih =
-          let at : (j : ℕ) → Free w (s ∷ ss) (suc i) (suc j) → Free (stepped k d w s) ss i j = λ j. subst (λ (v : List ℕ). stepFault k d v (stepAt ss j) ≡ 0) (after-goes k d w s ss z i) in
-          run-goes k d w s (exchangedSteps i ss) z ∙ ap oneMore (ih (at i p) (at (suc i) q)) ∙ sym (run-goes k d w s ss z)
+          let e = after-goes k d w s ss z i in
+          let at : (j : ℕ) → Free w (s ∷ ss) (suc i) (suc j) → Free (stepped k d w s) ss i j = λ j. subst (λ (v : List ℕ). stepFault k d v (stepAt ss j) ≡ 0) e in
+          let room : Room (stepped k d w s) ss i = subst (λ (v : List ℕ). RoomForBoth k d v (stepAt ss i) (stepAt ss (suc i))) e r in
+          run-goes k d w s (exchangedSteps i ss) z ∙ ap oneMore (ih (at i p) (at (suc i) q) room) ∙ sym (run-goes k d w s ss z)
       go (no n) ih = run-stops k d w s (exchangedSteps i ss) n ∙ sym (run-stops k d w s ss n)
 
   -- a run that accepts a step accepts the first
@@ -69,4 +76,4 @@ module _ (k : ℕ) (d : Design) where
       ∙ ap (ranTo (suc i) 24) (sym e)
 
 pub exchange : Exchange
-exchange = record { either = either-order; hears = hears-first; same-run = same-run; refused = refused }
+exchange = record { either = either-order; two-stops = two-stops; hears = hears-first; same-run = same-run; refused = refused }

@@ -5,3 +5,4 @@ pub mod Divisors
 pub mod Editions
 pub mod Searches
 pub mod Orders
+pub mod Stops

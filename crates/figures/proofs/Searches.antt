@@ -9,9 +9,9 @@ use Rattle.table.specs.Table.{ruleAt, ruleOf}
 use Rattle.table.specs.Refusals.{countsOutside, tooShort, countsOff, distancesOff, stateOff, noInitial, noState, divisorOff, forgets, sendsTwo, stateFault, ruleFault, recordsFault, tableFault}
 use Rattle.bundle.specs.Bundle.{frontLength, tableInUse, startsOf, stepsOf, levelOf}
 use Rattle.bundle.specs.Refusals.{noTrailer, outOfBundle, notAdmitted, stepsOff, notInitial, startFault, scheduleFault, faultWith}
-use Rattle.paper.specs.Words.{size, cellAt, sentAt, state, cell, sent, hear, tell, start}
+use Rattle.paper.specs.Words.{size, cellAt, sentAt, stoppedAt, state, cell, sent, stopped, hear, tell, stop, start}
 use Rattle.paper.specs.Form.{wide, slot, bump, coll, shown}
-use Rattle.paper.specs.Step.{heard, stepped, malformed, notInTransit, notMet, stepFault}
+use Rattle.paper.specs.Step.{heard, taken, stepped, malformed, notInTransit, notMet, takeFault, stopFault, stepFault}
 use Rattle.schedule.specs.Records.{stepsIn, bytesOf}
 use Rattle.rules.specs.Design.{metAt}
 use Rattle.paper.specs.Paper.{kindOf}
@@ -28,6 +28,6 @@ unfolding
     count some every mem insert signedByte sumOf roundedUp thresholdOf _if_else_ _▹_ firstFault typesIn typeBytes weightBytes divisorAt weightsAt weightsOf ruleAt tooShort countsOff distancesOff stateOff noInitial
     noState divisorOff forgets sendsTwo ruleOf levelOf
     stateFault ruleFault recordsFault tableFault frontLength tableInUse startsOf stepsOf noTrailer outOfBundle notAdmitted stepsOff notInitial startFault scheduleFault
-    faultWith size cellAt sentAt state cell sent hear tell start wide slot bump coll shown heard stepped malformed notInTransit notMet stepFault stepsIn bytesOf kindOf runBy metAt ranWith countsOutside
+    faultWith size cellAt sentAt stoppedAt state cell sent stopped hear tell stop start wide slot bump coll shown heard taken stepped malformed notInTransit notMet takeFault stopFault stepFault stepsIn bytesOf kindOf runBy metAt ranWith countsOutside
     each ofRule ofBoard allTries accepts after through walk searched searchFault searchedOf searchAnswer searchBytes
 searches-hold = ((refl, refl), ((refl, refl), ((refl, refl), ((refl, refl), ((refl, refl), ((refl, refl), ((refl, refl), ((refl, refl), ((refl, refl), ((refl, refl), ((refl, refl), ((refl, refl), ((refl, refl), ((refl, refl), ((refl, refl), ((refl, refl), ((refl, refl), ((refl, refl), ((refl, refl), ((refl, refl), ((refl, refl), ((refl, refl), tt))))))))))))))))))))))

@@ -81,10 +81,10 @@ divisors =
     asks halves 0 0 6 0 (pos 3) ∷
     asks halves 0 1 6 0 (pos 2) ∷
     -- with four echoes of five boards board 2 accepts, in each form; with three it does not
-    runs (majority ++ heard 0 (2 ∷ 4 ∷ 0 ∷ 1 ∷ 2 ∷ 4 ∷ 0 ∷ 4 ∷ 2 ∷ 5 ∷ 0 ∷ 2 ∷ [])) [] 0 0 7 (2 ∷ 2 ∷ 3 ∷ 1 ∷ 0 ∷ 0 ∷ 23 ∷ 0 ∷ 7 ∷ []) ∷
-    runs (heard 1 (2 ∷ 4 ∷ 0 ∷ 0 ∷ 2 ∷ 4 ∷ 0 ∷ 1 ∷ 2 ∷ 5 ∷ 0 ∷ 0 ∷ [])) majority 0 0 7 (2 ∷ 2 ∷ 3 ∷ 1 ∷ 0 ∷ 0 ∷ 0 ∷ 0 ∷ 3 ∷ 1 ∷ 0 ∷ 0 ∷ 3 ∷ []) ∷
-    runs (heard 2 (2 ∷ 4 ∷ 0 ∷ 0 ∷ 2 ∷ 4 ∷ 0 ∷ 0 ∷ 2 ∷ 5 ∷ 0 ∷ 0 ∷ [])) majority 0 0 7 (2 ∷ 2 ∷ 3 ∷ 1 ∷ 0 ∷ 0 ∷ 4 ∷ 0 ∷ 3 ∷ []) ∷
-    runs (majority ++ heard 0 (2 ∷ 4 ∷ 0 ∷ 1 ∷ 2 ∷ 5 ∷ 0 ∷ 2 ∷ [])) [] 25 5 5 (2 ∷ 2 ∷ 2 ∷ 1 ∷ 0 ∷ 0 ∷ 3 ∷ 0 ∷ 7 ∷ []) ∷
+    runs (majority ++ heard 0 (2 ∷ 4 ∷ 0 ∷ 1 ∷ 2 ∷ 4 ∷ 0 ∷ 4 ∷ 2 ∷ 5 ∷ 0 ∷ 2 ∷ [])) [] 0 0 7 (2 ∷ 2 ∷ 3 ∷ 1 ∷ 0 ∷ 0 ∷ 23 ∷ 0 ∷ 7 ∷ 0 ∷ []) ∷
+    runs (heard 1 (2 ∷ 4 ∷ 0 ∷ 0 ∷ 2 ∷ 4 ∷ 0 ∷ 1 ∷ 2 ∷ 5 ∷ 0 ∷ 0 ∷ [])) majority 0 0 7 (2 ∷ 2 ∷ 3 ∷ 1 ∷ 0 ∷ 0 ∷ 0 ∷ 0 ∷ 3 ∷ 1 ∷ 0 ∷ 0 ∷ 3 ∷ 0 ∷ []) ∷
+    runs (heard 2 (2 ∷ 4 ∷ 0 ∷ 0 ∷ 2 ∷ 4 ∷ 0 ∷ 0 ∷ 2 ∷ 5 ∷ 0 ∷ 0 ∷ [])) majority 0 0 7 (2 ∷ 2 ∷ 3 ∷ 1 ∷ 0 ∷ 0 ∷ 4 ∷ 0 ∷ 3 ∷ 0 ∷ []) ∷
+    runs (majority ++ heard 0 (2 ∷ 4 ∷ 0 ∷ 1 ∷ 2 ∷ 5 ∷ 0 ∷ 2 ∷ [])) [] 25 5 5 (2 ∷ 2 ∷ 2 ∷ 1 ∷ 0 ∷ 0 ∷ 3 ∷ 0 ∷ 7 ∷ 0 ∷ []) ∷
     translatesTo (heard 0 (2 ∷ 4 ∷ 0 ∷ 1 ∷ 2 ∷ 4 ∷ 0 ∷ 4 ∷ 2 ∷ 5 ∷ 0 ∷ 2 ∷ [])) majority 1 0 0 40 (heard 1 (2 ∷ 4 ∷ 0 ∷ 0 ∷ 2 ∷ 4 ∷ 0 ∷ 1 ∷ 2 ∷ 5 ∷ 0 ∷ 0 ∷ [])) ∷
     firstOf (heard 0 (2 ∷ 4 ∷ 0 ∷ 1 ∷ 2 ∷ 4 ∷ 0 ∷ 4 ∷ [])) majority (First.Step 0 4 0 0) ∷
     -- 9 on each side

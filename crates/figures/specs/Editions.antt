@@ -34,7 +34,7 @@ editions =
     toSecond (set echoSecond 0 4) 4 0 0 (9 ∷ []) ∷
     toFirst (set majority 13 0) 9 0 0 (9 ∷ []) ∷
     -- W beside either, and with either in front
-    runs W echoSecond 0 0 5 (2 ∷ 2 ∷ 3 ∷ 0 ∷ 0 ∷ 11 ∷ 7 ∷ []) ∷
-    runs (echoSecond ++ W) [] 0 0 5 (2 ∷ 2 ∷ 3 ∷ 0 ∷ 0 ∷ 11 ∷ 7 ∷ []) ∷
+    runs W echoSecond 0 0 5 (2 ∷ 2 ∷ 3 ∷ 0 ∷ 0 ∷ 11 ∷ 7 ∷ 0 ∷ []) ∷
+    runs (echoSecond ++ W) [] 0 0 5 (2 ∷ 2 ∷ 3 ∷ 0 ∷ 0 ∷ 11 ∷ 7 ∷ 0 ∷ []) ∷
     translates W echoSecond 0 0 31 WCounting ∷
     firstOf (echoSecond ++ W) [] (First.Step 0 4 0 0) ∷ []

@@ -6,3 +6,4 @@ pub mod Divisors
 pub mod Editions
 pub mod Searches
 pub mod Orders
+pub mod Stops

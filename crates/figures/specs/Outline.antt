@@ -66,7 +66,7 @@ lowestOfCorrectFirst = 0 ∷ 2 ∷ 3 ∷ 0 ∷ 1 ∷ 0 ∷ 1 ∷ 1 ∷ 2 ∷ 1 �
 
 -- where rule 1 asks for t in place of t + 1, a faulty echo alone brings board 0 from V0 to SE
 abbrev pub oneEnough : Case
-oneEnough = runs (oneEcho 1 0 3) (asking 0) 0 0 1 (2 ∷ 0 ∷ 0 ∷ 8 ∷ 0 ∷ 0 ∷ 1 ∷ [])
+oneEnough = runs (oneEcho 1 0 3) (asking 0) 0 0 1 (2 ∷ 0 ∷ 0 ∷ 8 ∷ 0 ∷ 0 ∷ 1 ∷ 0 ∷ [])
 
 abbrev pub outline : List Case
 outline =
@@ -78,11 +78,11 @@ outline =
     -- P2: the ends, -16,384 and 16,256
     comesTo (record { a = 0x80; b = 0x80; d = 0x80; e = 1 }) 64 63 (negsuc 16383) ∷
     comesTo (record { a = 0x7F; b = 0x7F; d = 0x7F; e = 1 }) 64 63 (pos 16256) ∷
-    -- P3, P4: W, and W in counting form
-    runs W echo 0 0 5 (2 ∷ 2 ∷ 3 ∷ 0 ∷ 0 ∷ 11 ∷ 7 ∷ []) ∷
-    runs WCounting echo 0 0 5 (2 ∷ 2 ∷ 3 ∷ 0 ∷ 0 ∷ 0 ∷ 0 ∷ 2 ∷ 1 ∷ 3 ∷ []) ∷
+    -- P3, P4: W, and W in counting form; the last word, here and below, is the set of stopped boards (Q-11)
+    runs W echo 0 0 5 (2 ∷ 2 ∷ 3 ∷ 0 ∷ 0 ∷ 11 ∷ 7 ∷ 0 ∷ []) ∷
+    runs WCounting echo 0 0 5 (2 ∷ 2 ∷ 3 ∷ 0 ∷ 0 ∷ 0 ∷ 0 ∷ 2 ∷ 1 ∷ 3 ∷ 0 ∷ []) ∷
     -- P5: W with last source 0, whose echo board 2 has heard
-    runs (fiveSteps 0 3 0 0) echo 24 4 4 (2 ∷ 2 ∷ 2 ∷ 0 ∷ 0 ∷ 9 ∷ 7 ∷ []) ∷
+    runs (fiveSteps 0 3 0 0) echo 24 4 4 (2 ∷ 2 ∷ 2 ∷ 0 ∷ 0 ∷ 9 ∷ 7 ∷ 0 ∷ []) ∷
     -- P6: W's counting form; P7: so is that of W with senders 1, 3, 0 in its receipts, and it comes back as W itself
     translates W echo 0 0 31 WCounting ∷
     translates (fiveSteps 1 3 0 0) echo 0 0 31 WCounting ∷
@@ -99,19 +99,19 @@ outline =
     reads (echo ++ W) [] 0 0 ∷
     reads W echo 0 0 ∷
     -- P9: one faulty echo does not make two; nobody has sent
-    runs (schedule (0 ∷ 0 ∷ 0 ∷ []) (0 ∷ 1 ∷ 0 ∷ 3 ∷ []) 4 1 1) echo 25 0 0 (0 ∷ 0 ∷ 0 ∷ 0 ∷ 0 ∷ 0 ∷ 0 ∷ []) ∷
-    runs (schedule (0 ∷ 0 ∷ 0 ∷ []) (0 ∷ 0 ∷ 0 ∷ 1 ∷ []) 4 1 1) echo 24 0 0 (0 ∷ 0 ∷ 0 ∷ 0 ∷ 0 ∷ 0 ∷ 0 ∷ []) ∷
+    runs (schedule (0 ∷ 0 ∷ 0 ∷ []) (0 ∷ 1 ∷ 0 ∷ 3 ∷ []) 4 1 1) echo 25 0 0 (0 ∷ 0 ∷ 0 ∷ 0 ∷ 0 ∷ 0 ∷ 0 ∷ 0 ∷ []) ∷
+    runs (schedule (0 ∷ 0 ∷ 0 ∷ []) (0 ∷ 0 ∷ 0 ∷ 1 ∷ []) 4 1 1) echo 24 0 0 (0 ∷ 0 ∷ 0 ∷ 0 ∷ 0 ∷ 0 ∷ 0 ∷ 0 ∷ []) ∷
     -- P10: a board can't hear its echo in the step that sends it; it can in the next
-    runs (schedule (1 ∷ []) (0 ∷ 3 ∷ 0 ∷ 0 ∷ []) 1 0 0) echo 24 0 0 (1 ∷ 0 ∷ 0 ∷ []) ∷
-    runs (schedule (1 ∷ []) (0 ∷ 3 ∷ 255 ∷ 255 ∷ 0 ∷ 5 ∷ 0 ∷ 0 ∷ []) 1 0 0) echo 0 0 2 (3 ∷ 1 ∷ 1 ∷ []) ∷
+    runs (schedule (1 ∷ []) (0 ∷ 3 ∷ 0 ∷ 0 ∷ []) 1 0 0) echo 24 0 0 (1 ∷ 0 ∷ 0 ∷ 0 ∷ []) ∷
+    runs (schedule (1 ∷ []) (0 ∷ 3 ∷ 255 ∷ 255 ∷ 0 ∷ 5 ∷ 0 ∷ 0 ∷ []) 1 0 0) echo 0 0 2 (3 ∷ 1 ∷ 1 ∷ 0 ∷ []) ∷
     -- two correct echoes were sent and heard: a third is not in transit, whatever room a faulty one has
-    runs (scheduleIn 1 (1 ∷ 1 ∷ 1 ∷ []) (0 ∷ 3 ∷ 255 ∷ 255 ∷ 2 ∷ 3 ∷ 0 ∷ 0 ∷ 2 ∷ 4 ∷ 0 ∷ 0 ∷ 2 ∷ 4 ∷ 0 ∷ 0 ∷ []) 4 1 1) echo 24 3 3 (2 ∷ 1 ∷ 2 ∷ 0 ∷ 0 ∷ 0 ∷ 0 ∷ 2 ∷ 0 ∷ 2 ∷ []) ∷
+    runs (scheduleIn 1 (1 ∷ 1 ∷ 1 ∷ []) (0 ∷ 3 ∷ 255 ∷ 255 ∷ 2 ∷ 3 ∷ 0 ∷ 0 ∷ 2 ∷ 4 ∷ 0 ∷ 0 ∷ 2 ∷ 4 ∷ 0 ∷ 0 ∷ []) 4 1 1) echo 24 3 3 (2 ∷ 1 ∷ 2 ∷ 0 ∷ 0 ∷ 0 ∷ 0 ∷ 2 ∷ 0 ∷ 2 ∷ 0 ∷ []) ∷
     -- after W the first possible step is 00 04 00 00 (Q-2), also in counting form; after P5's refusal there is none
     firstOf W echo (First.Step 0 4 0 0) ∷
     firstOf WCounting echo (First.Step 0 4 0 0) ∷
     firstOf (fiveSteps 0 3 0 0) echo (First.Refused 24 4) ∷
     -- Q-4: W in plain form, from both others; it comes back with the correct tag where that is in transit, which it is each time
-    runs WPlain echo 0 0 5 (2 ∷ 2 ∷ 3 ∷ 0 ∷ 0 ∷ 3 ∷ 3 ∷ []) ∷
+    runs WPlain echo 0 0 5 (2 ∷ 2 ∷ 3 ∷ 0 ∷ 0 ∷ 3 ∷ 3 ∷ 0 ∷ []) ∷
     translatesTo W echo 2 0 0 31 WPlain ∷
     translatesTo WCounting echo 2 0 0 31 WPlain ∷
     translatesTo WPlain echo 1 0 0 31 (fiveSteps 0 0 0 1) ∷
@@ -122,9 +122,9 @@ outline =
     translatesTo (scheduleIn 2 (1 ∷ 1 ∷ 1 ∷ []) (0 ∷ 3 ∷ 255 ∷ 255 ∷ 1 ∷ 3 ∷ 0 ∷ 0 ∷ 0 ∷ 4 ∷ 0 ∷ 0 ∷ 0 ∷ 4 ∷ 0 ∷ 0 ∷ 0 ∷ 4 ∷ 0 ∷ 0 ∷ []) 4 1 1) echo 1 0 0 31
     (scheduleIn 1 (1 ∷ 1 ∷ 1 ∷ []) (0 ∷ 3 ∷ 255 ∷ 255 ∷ 1 ∷ 3 ∷ 0 ∷ 0 ∷ 0 ∷ 4 ∷ 0 ∷ 0 ∷ 0 ∷ 4 ∷ 0 ∷ 0 ∷ 0 ∷ 4 ∷ 0 ∷ 1 ∷ []) 4 1 1) ∷
     -- with one sent, it hears two, sent plus f, and no third
-    runs (scheduleIn 2 (1 ∷ 1 ∷ 1 ∷ []) (0 ∷ 3 ∷ 255 ∷ 255 ∷ 0 ∷ 4 ∷ 0 ∷ 0 ∷ 0 ∷ 4 ∷ 0 ∷ 0 ∷ 0 ∷ 4 ∷ 0 ∷ 0 ∷ []) 4 1 1) echo 24 3 3 (2 ∷ 1 ∷ 1 ∷ 2 ∷ 0 ∷ 0 ∷ 1 ∷ []) ∷
+    runs (scheduleIn 2 (1 ∷ 1 ∷ 1 ∷ []) (0 ∷ 3 ∷ 255 ∷ 255 ∷ 0 ∷ 4 ∷ 0 ∷ 0 ∷ 0 ∷ 4 ∷ 0 ∷ 0 ∷ 0 ∷ 4 ∷ 0 ∷ 0 ∷ []) 4 1 1) echo 24 3 3 (2 ∷ 1 ∷ 1 ∷ 2 ∷ 0 ∷ 0 ∷ 1 ∷ 0 ∷ []) ∷
     -- source 1 is none; form 3 is none
-    runs (scheduleIn 2 (1 ∷ 1 ∷ 1 ∷ []) (0 ∷ 3 ∷ 255 ∷ 255 ∷ 0 ∷ 4 ∷ 0 ∷ 1 ∷ []) 4 1 1) echo 23 1 1 (2 ∷ 1 ∷ 1 ∷ 0 ∷ 0 ∷ 0 ∷ 1 ∷ []) ∷
+    runs (scheduleIn 2 (1 ∷ 1 ∷ 1 ∷ []) (0 ∷ 3 ∷ 255 ∷ 255 ∷ 0 ∷ 4 ∷ 0 ∷ 1 ∷ []) 4 1 1) echo 23 1 1 (2 ∷ 1 ∷ 1 ∷ 0 ∷ 0 ∷ 0 ∷ 1 ∷ 0 ∷ []) ∷
     reads (scheduleIn 3 (1 ∷ 1 ∷ 1 ∷ []) [] 4 1 1) echo 12 0 ∷
     -- 31: the present form, and unknown ones, by the whole number; before 30 and a refused step, after 14
     translatesTo W echo 0 31 0 0 (replicate 31 9) ∷
@@ -139,26 +139,26 @@ outline =
     firstOf (scheduleIn 1 (1 ∷ []) (0 ∷ 3 ∷ 255 ∷ 255 ∷ 0 ∷ 5 ∷ 0 ∷ 0 ∷ []) 1 0 0) echo First.Nothing ∷
     firstOf (scheduleIn 2 (1 ∷ []) (0 ∷ 3 ∷ 255 ∷ 255 ∷ 0 ∷ 5 ∷ 0 ∷ 0 ∷ []) 1 0 0) echo First.Nothing ∷
     -- Q-5: in V0 a board hears a faulty echo and waits; by rule 1 it is refused, in the forms that P9 leaves out too
-    runs (oneEcho 0 0 3) echo 0 0 1 (0 ∷ 0 ∷ 0 ∷ 8 ∷ 0 ∷ 0 ∷ 0 ∷ []) ∷
-    runs (oneEcho 1 1 1) echo 25 0 0 (0 ∷ 0 ∷ 0 ∷ 0 ∷ 0 ∷ 0 ∷ 0 ∷ 0 ∷ 0 ∷ 0 ∷ []) ∷
-    runs (oneEcho 1 2 0) echo 25 0 0 (0 ∷ 0 ∷ 0 ∷ 0 ∷ 0 ∷ 0 ∷ 0 ∷ []) ∷
+    runs (oneEcho 0 0 3) echo 0 0 1 (0 ∷ 0 ∷ 0 ∷ 8 ∷ 0 ∷ 0 ∷ 0 ∷ 0 ∷ []) ∷
+    runs (oneEcho 1 1 1) echo 25 0 0 (0 ∷ 0 ∷ 0 ∷ 0 ∷ 0 ∷ 0 ∷ 0 ∷ 0 ∷ 0 ∷ 0 ∷ 0 ∷ []) ∷
+    runs (oneEcho 1 2 0) echo 25 0 0 (0 ∷ 0 ∷ 0 ∷ 0 ∷ 0 ∷ 0 ∷ 0 ∷ 0 ∷ []) ∷
     -- where rule 1 asks for t in place of t + 1, the same step is accepted in every form: board 0 is in SE, and one echo is sent
     oneEnough ∷
-    runs (oneEcho 1 1 1) (asking 0) 0 0 1 (2 ∷ 0 ∷ 0 ∷ 0 ∷ 1 ∷ 0 ∷ 0 ∷ 0 ∷ 0 ∷ 1 ∷ []) ∷
-    runs (oneEcho 1 2 0) (asking 0) 0 0 1 (2 ∷ 0 ∷ 0 ∷ 1 ∷ 0 ∷ 0 ∷ 1 ∷ []) ∷
+    runs (oneEcho 1 1 1) (asking 0) 0 0 1 (2 ∷ 0 ∷ 0 ∷ 0 ∷ 1 ∷ 0 ∷ 0 ∷ 0 ∷ 0 ∷ 1 ∷ 0 ∷ []) ∷
+    runs (oneEcho 1 2 0) (asking 0) 0 0 1 (2 ∷ 0 ∷ 0 ∷ 1 ∷ 0 ∷ 0 ∷ 1 ∷ 0 ∷ []) ∷
     -- after that wait the next board may hear the faulty echo; where rule 1 asks for t, board 0 goes to SE by itself
     firstOf (oneEcho 0 0 3) echo (First.Step 1 0 0 3) ∷
     firstOf (oneEcho 0 0 3) (asking 0) (First.Step 0 1 255 255) ∷
     -- two types and unequal starts, in each form, with the table in front: no two boards, cells or sent words are the same
-    runs (pair ++ pairIn 0 senders) echo 0 0 16 (3 ∷ 5 ∷ 6 ∷ 31 ∷ 14 ∷ 4 ∷ 24 ∷ 23 ∷ 0 ∷ 7 ∷ 6 ∷ []) ∷
-    runs (pair ++ pairIn 1 tags) echo 0 0 16 (3 ∷ 5 ∷ 6 ∷ 3 ∷ 2 ∷ 2 ∷ 1 ∷ 1 ∷ 0 ∷ 0 ∷ 2 ∷ 3 ∷ 1 ∷ 0 ∷ 0 ∷ 3 ∷ 2 ∷ []) ∷
-    runs (pair ++ pairIn 2 untold) echo 0 0 16 (3 ∷ 5 ∷ 6 ∷ 5 ∷ 3 ∷ 1 ∷ 2 ∷ 4 ∷ 0 ∷ 3 ∷ 2 ∷ []) ∷
+    runs (pair ++ pairIn 0 senders) echo 0 0 16 (3 ∷ 5 ∷ 6 ∷ 31 ∷ 14 ∷ 4 ∷ 24 ∷ 23 ∷ 0 ∷ 7 ∷ 6 ∷ 0 ∷ []) ∷
+    runs (pair ++ pairIn 1 tags) echo 0 0 16 (3 ∷ 5 ∷ 6 ∷ 3 ∷ 2 ∷ 2 ∷ 1 ∷ 1 ∷ 0 ∷ 0 ∷ 2 ∷ 3 ∷ 1 ∷ 0 ∷ 0 ∷ 3 ∷ 2 ∷ 0 ∷ []) ∷
+    runs (pair ++ pairIn 2 untold) echo 0 0 16 (3 ∷ 5 ∷ 6 ∷ 5 ∷ 3 ∷ 1 ∷ 2 ∷ 4 ∷ 0 ∷ 3 ∷ 2 ∷ 0 ∷ []) ∷
     -- with the last receipt of type 1, board 2 has three of the four of type 0 that rule 8 asks for
-    runs (pairLast 1 0 senders) pair 25 15 15 (3 ∷ 5 ∷ 5 ∷ 31 ∷ 14 ∷ 4 ∷ 24 ∷ 19 ∷ 0 ∷ 7 ∷ 6 ∷ []) ∷
-    runs (pairLast 1 1 tags) pair 25 15 15 (3 ∷ 5 ∷ 5 ∷ 3 ∷ 2 ∷ 2 ∷ 1 ∷ 1 ∷ 0 ∷ 0 ∷ 2 ∷ 2 ∷ 1 ∷ 0 ∷ 0 ∷ 3 ∷ 2 ∷ []) ∷
-    runs (pairLast 1 2 untold) pair 25 15 15 (3 ∷ 5 ∷ 5 ∷ 5 ∷ 3 ∷ 1 ∷ 2 ∷ 3 ∷ 0 ∷ 3 ∷ 2 ∷ []) ∷
+    runs (pairLast 1 0 senders) pair 25 15 15 (3 ∷ 5 ∷ 5 ∷ 31 ∷ 14 ∷ 4 ∷ 24 ∷ 19 ∷ 0 ∷ 7 ∷ 6 ∷ 0 ∷ []) ∷
+    runs (pairLast 1 1 tags) pair 25 15 15 (3 ∷ 5 ∷ 5 ∷ 3 ∷ 2 ∷ 2 ∷ 1 ∷ 1 ∷ 0 ∷ 0 ∷ 2 ∷ 2 ∷ 1 ∷ 0 ∷ 0 ∷ 3 ∷ 2 ∷ 0 ∷ []) ∷
+    runs (pairLast 1 2 untold) pair 25 15 15 (3 ∷ 5 ∷ 5 ∷ 5 ∷ 3 ∷ 1 ∷ 2 ∷ 3 ∷ 0 ∷ 3 ∷ 2 ∷ 0 ∷ []) ∷
     -- with the first two starts exchanged, rule 2 does not leave board 0's state
-    runs (scheduleIn 0 (0 ∷ 2 ∷ 1 ∷ []) (0 ∷ 2 ∷ 255 ∷ 255 ∷ []) 5 4 2) pair 22 0 0 (0 ∷ 2 ∷ 1 ∷ 0 ∷ 0 ∷ 0 ∷ 0 ∷ 0 ∷ 0 ∷ 0 ∷ 0 ∷ []) ∷
+    runs (scheduleIn 0 (0 ∷ 2 ∷ 1 ∷ []) (0 ∷ 2 ∷ 255 ∷ 255 ∷ []) 5 4 2) pair 22 0 0 (0 ∷ 2 ∷ 1 ∷ 0 ∷ 0 ∷ 0 ∷ 0 ∷ 0 ∷ 0 ∷ 0 ∷ 0 ∷ 0 ∷ []) ∷
     -- between any two forms; senders and tags that are not told come back as the lowest and as the correct one, and leave other words
     translatesTo (pairIn 0 senders) pair 1 0 0 75 (pairIn 1 tags) ∷
     translatesTo (pairIn 0 senders) pair 2 0 0 75 (pairIn 2 untold) ∷
@@ -167,9 +167,9 @@ outline =
     translatesTo (pairIn 2 untold) pair 1 0 0 75 (pairIn 1 correctFirst) ∷
     translatesTo (pairIn 2 untold) pair 0 0 0 75 (pairIn 0 lowestOfCorrectFirst) ∷
     translatesTo (pair ++ pairIn 2 untold) echo 0 0 0 169 (pair ++ pairIn 0 lowestOfCorrectFirst) ∷
-    runs (pairIn 0 lowestOfTags) pair 0 0 16 (3 ∷ 5 ∷ 6 ∷ 31 ∷ 14 ∷ 1 ∷ 24 ∷ 15 ∷ 0 ∷ 7 ∷ 6 ∷ []) ∷
-    runs (pairIn 1 correctFirst) pair 0 0 16 (3 ∷ 5 ∷ 6 ∷ 3 ∷ 2 ∷ 2 ∷ 1 ∷ 1 ∷ 0 ∷ 2 ∷ 0 ∷ 3 ∷ 1 ∷ 0 ∷ 0 ∷ 3 ∷ 2 ∷ []) ∷
-    runs (pairIn 0 lowestOfCorrectFirst) pair 0 0 16 (3 ∷ 5 ∷ 6 ∷ 31 ∷ 14 ∷ 1 ∷ 6 ∷ 15 ∷ 0 ∷ 7 ∷ 6 ∷ []) ∷
+    runs (pairIn 0 lowestOfTags) pair 0 0 16 (3 ∷ 5 ∷ 6 ∷ 31 ∷ 14 ∷ 1 ∷ 24 ∷ 15 ∷ 0 ∷ 7 ∷ 6 ∷ 0 ∷ []) ∷
+    runs (pairIn 1 correctFirst) pair 0 0 16 (3 ∷ 5 ∷ 6 ∷ 3 ∷ 2 ∷ 2 ∷ 1 ∷ 1 ∷ 0 ∷ 2 ∷ 0 ∷ 3 ∷ 1 ∷ 0 ∷ 0 ∷ 3 ∷ 2 ∷ 0 ∷ []) ∷
+    runs (pairIn 0 lowestOfCorrectFirst) pair 0 0 16 (3 ∷ 5 ∷ 6 ∷ 31 ∷ 14 ∷ 1 ∷ 6 ∷ 15 ∷ 0 ∷ 7 ∷ 6 ∷ 0 ∷ []) ∷
     -- board 0 has all of type 0, and by rule 3 lacks one of type 1: only faulty board 4 can send it
     firstOf (pair ++ pairIn 0 senders) echo (First.Step 0 3 1 4) ∷
     firstOf (pair ++ pairIn 1 tags) echo (First.Step 0 3 1 1) ∷

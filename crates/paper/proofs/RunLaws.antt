@@ -44,7 +44,7 @@ module _ (k : ℕ) (d : Design) (w₀ : List ℕ) (ss : List Step) where
     running-ends = by.running-ends (machineOf k d) w₀ ss i w S
 
 abbrev pub RanWithin : ℕ → Ran → Type 0
-RanWithin n r = by.WithinBy 25 n r
+RanWithin n r = by.WithinBy 27 n r
 
 pub run-within : (k : ℕ) (d : Design) (w : List ℕ) (ss : List Step) → RanWithin (length ss) (run k d w ss)
-run-within k d = by.run-within (machineOf k d) 25 (step-most k d)
+run-within k d = by.run-within (machineOf k d) 27 (step-most k d)

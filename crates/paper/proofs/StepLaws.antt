@@ -1,27 +1,28 @@
 -- A step is accepted exactly when the paper's relation holds for it, since each check is one of its parts; and its words are then the ones that the
 -- relation gives, since receipt, move and send change what it says and no other view.
-use mathlib.Core.Path.{_≡_, refl, sym, ap, _∙_, subst}
+use mathlib.Core.Path.{_≡_, refl, sym, ap, _∙_, subst, subst⁻¹}
 use mathlib.Core.Logic.{_≢_}
-use mathlib.Core.Bool.{Bool, true, false, not, _&&_, _||_}
+use mathlib.Core.Bool.{Bool, true, false, not, _&&_, _||_, true≢false}
 use mathlib.Core.List.{List}
 use Prim.Native.Nat.{ℕ, _+_, _≤_, _<_}
 use native.Mathlib.Nat.{le-refl}
 use native.Mathlib.Omega.{arith}
 use lib.Dec.{eqb}
 use lib.ListN.{length, set, length-set}
-use borrow.Author.Tests.{leb-false, lt-leb, eq-eqb, eqb-true, eqb-false, not-false}
+use borrow.Author.Tests.{leb-false, ltb-false, le-ltb, lt-leb, eq-eqb, eqb-true, eqb-false, not-false}
 use Rattle.senders.specs.Tally.{digit}
+use Rattle.senders.specs.Set.{mem}
 use Rattle.senders.proofs.TallyLaws.{every-each, every-made}
 use Rattle.fault.specs.Tests.{_atLeast_}
 use Rattle.fault.specs.Fault.{_if_else_}
 use Rattle.fault.proofs.FaultLaws.{if-passed, if-keeps, if-no, if-most}
 use Rattle.fault.proofs.TestLaws.{or-none, same}
-use Rattle.paper.specs.Paper.{Design, Interp, Conf, Step, newly, silent, Kind, silence, message, kindOf, Coming, CanHear, added, Moves, Same}
-use Rattle.paper.specs.Words.{size, state, sent, hear}
+use Rattle.paper.specs.Paper.{Design, Interp, Conf, Step, newly, silent, Kind, silence, message, kindOf, Coming, CanHear, added, Moves, Stops, Steps, byRule, byStop, Same, stopRule, isStop, stoppedCount}
+use Rattle.paper.specs.Words.{size, state, sent, hear, stop}
 use Rattle.paper.specs.Form.{wide, slot, bump, shown}
-use Rattle.paper.specs.Step.{columnOf, rcvdIn, sentIn, view, countOf, receipt, heard, stepped, outOfRange, malformed, notComing, notInTransit, notMet, stepFault}
+use Rattle.paper.specs.Step.{columnOf, rcvdIn, sentIn, stoppedIn, view, countOf, receipt, heard, taken, outOfRange, malformed, notComing, notInTransit, notMet, takeFault, stopFault, stepFault, stepped}
 use Rattle.paper.proofs.Cases.{yes-no, same-or}
-use Rattle.paper.proofs.WordLaws.{length-hear, state-hear, sent-hear, cell-hear-same, cell-hear-other, state-move-same, state-move-other, cell-move, sent-move, length-tell, state-tell, cell-tell, sent-tell}
+use Rattle.paper.proofs.WordLaws.{length-hear, state-hear, sent-hear, cell-hear-same, cell-hear-other, state-move-same, state-move-other, cell-move, sent-move, length-tell, state-tell, cell-tell, sent-tell, stopped-hear, stopped-move, stopped-tell, stopped-stop, state-stop, cell-stop, sent-stop}
 use Rattle.paper.proofs.FormLaws.{slot-below, coll-same, coll-bump, shown-bump, card-add}
 
 -- ---- the kind of a step
@@ -73,6 +74,7 @@ pub record Accepted (k : ℕ) (d : Design) (w : List ℕ) (s : Step) : Type 0 wh
 record Shows (k : ℕ) (d : Design) (w : List ℕ) (p : ℕ) (κ : Kind) (v : List ℕ) : Type 0 where
   states : (q : ℕ) → q < d .boards → state v q ≡ state w q
   sents : (m : ℕ) → sentIn k d v m ≡ sentIn k d w m
+  stops : stoppedIn k d v ≡ stoppedIn k d w
   others : (q m : ℕ) → q < d .boards → m < d .types → q ≢ p → rcvdIn k d v q m ≡ rcvdIn k d w q m
   mine : (m : ℕ) → m < d .types → rcvdIn k d v p m ≡ added (columnOf k d) κ (rcvdIn k d w p) m
 
@@ -109,7 +111,7 @@ module _ (k : ℕ) (d : Design) (w : List ℕ) (p : ℕ) where
 
   module _ (l : length w ≡ size (d .boards) (d .types) (wide k)) (hp : p < d .boards) where
     shows : (κ : Kind) → Hears κ → Shows k d w p κ (receipt k d w p κ)
-    shows silence H = record { states = λ q h. refl; sents = λ m. refl; others = λ q m hq hm o. refl; mine = λ m hm. refl }
+    shows silence H = record { states = λ q h. refl; sents = λ m. refl; stops = refl; others = λ q m hq hm o. refl; mine = λ m hm. refl }
     shows (message m q) H =
         let C = d .boards in
         let T = d .types in
@@ -120,6 +122,7 @@ module _ (k : ℕ) (d : Design) (w : List ℕ) (p : ℕ) where
         let other = cell-hear-other C T (wide k) w l p m e g hp (H .type) he in
         record {
           states = state-hear C T (wide k) w l p m e g hp (H .type) he;
+          stops = stopped-hear C T (wide k) w l p m e g hp (H .type) he;
           sents = λ j. ap (shown k C (d .faulty)) (sent-hear C T (wide k) w l p m e g hp (H .type) he j);
           others = λ x j hx hj o. coll-same k C (d .faulty) _ _ (λ i hi. other x j i hj hi (λ r. o (r .0)));
           mine = λ j hj.
@@ -159,8 +162,8 @@ module _ (k : ℕ) (d : Design) (w : List ℕ) (s : Step) where
   zero-if : (n : ℕ) (t : Bool) (rest : ℕ) → (n ≡ 0 → ⊥) → (n if t else rest) ≡ 0 → (t ≡ false) × (rest ≡ 0)
   zero-if n t rest = if-passed (λ (x : ℕ). x ≡ 0) n t rest
 
-  pub accepted : stepFault k d w s ≡ 0 → Accepted k d w s
-  unfolding stepFault notMet
+  pub accepted : takeFault k d w s ≡ 0 → Accepted k d w s
+  unfolding takeFault notMet
   accepted h =
       let a = zero-if 20 _ _ (λ z. omega arith) h in
       let b = zero-if 21 _ _ (λ z. omega arith) (a .1) in
@@ -174,20 +177,20 @@ module _ (k : ℕ) (d : Design) (w : List ℕ) (s : Step) where
       }
 
   -- where the first five checks pass, the sixth is left
-  pub sixth : Arrives k d w s → stepFault k d w s ≡ (25 if notMet k d w s else 0)
-  unfolding stepFault malformed notInTransit
+  pub sixth : Arrives k d w s → takeFault k d w s ≡ (25 if notMet k d w s else 0)
+  unfolding takeFault malformed notInTransit
   sixth B =
       sym (
       if-no 20 refl (lt-leb _ _ (B .board)) (if-no 21 refl (lt-leb _ _ (B .rule)) (if-no 22 refl (ap not (eq-eqb _ _ (B .leaves)))
       (if-no 23 refl (formed k d w (s .board) (kindOf s) (hears-of B)) (if-no 24 refl (coming k d w (s .board) (kindOf s) (hears-of B)) refl)))))
 
-  pub not-refused : Accepted k d w s → stepFault k d w s ≡ 0
+  pub not-refused : Accepted k d w s → takeFault k d w s ≡ 0
   unfolding notMet
   not-refused A = sixth (A .arrives) ∙ sym (if-no 25 refl (ap not (every-made (d .types) _ (A .met))) refl)
 
-  pub step-most : stepFault k d w s ≤ 25
-  unfolding stepFault
-  step-most = if-most _ (omega arith) (if-most _ (omega arith) (if-most _ (omega arith) (if-most _ (omega arith) (if-most _ (omega arith) (if-most _ (omega arith) (omega arith))))))
+  take-most : takeFault k d w s ≤ 25
+  unfolding takeFault
+  take-most = if-most _ (omega arith) (if-most _ (omega arith) (if-most _ (omega arith) (if-most _ (omega arith) (if-most _ (omega arith) (if-most _ (omega arith) (omega arith))))))
 
   -- ---- the receipt
   pub heard-silent : silent s ≡ true → heard k d w s ≡ w
@@ -206,9 +209,9 @@ module _ (k : ℕ) (d : Design) (w : List ℕ) (s : Step) where
   unfolding heard
   length-heard = length-receipt k d w (s .board) (kindOf s)
 
-  pub length-stepped : length (stepped k d w s) ≡ length w
-  unfolding stepped
-  length-stepped = length-tell (d .boards) (d .types) (wide k) _ _ (d .types) _ ∙ length-set (heard k d w s) (s .board) (d .to (s .rule)) ∙ length-heard
+  pub length-taken : length (taken k d w s) ≡ length w
+  unfolding taken
+  length-taken = length-tell (d .boards) (d .types) (wide k) _ _ (d .types) _ ∙ length-set (heard k d w s) (s .board) (d .to (s .rule)) ∙ length-heard
 
   module _ (l : length w ≡ size (d .boards) (d .types) (wide k)) (B : Arrives k d w s) where
     hears : Shows k d w (s .board) (kindOf s) (heard k d w s)
@@ -219,30 +222,30 @@ module _ (k : ℕ) (d : Design) (w : List ℕ) (s : Step) where
     rcvd-heard = hears .mine
 
     -- ---- the whole step
-    rcvd-stepped : (q m : ℕ) → q < d .boards → m < d .types → rcvdIn k d (stepped k d w s) q m ≡ rcvdIn k d (heard k d w s) q m
-    unfolding stepped
+    rcvd-stepped : (q m : ℕ) → q < d .boards → m < d .types → rcvdIn k d (taken k d w s) q m ≡ rcvdIn k d (heard k d w s) q m
+    unfolding taken
     rcvd-stepped q m hq hm =
         coll-same k (d .boards) (d .faulty) _ _ (λ i hi.
         cell-tell (d .boards) (d .types) (wide k) _ _ (d .types) _ q m i hq hm hi
         ∙ cell-move (d .boards) (d .types) (wide k) (heard k d w s) (length-heard ∙ l) (s .board) (d .to (s .rule)) (B .board) q m i)
 
-    state-stepped-same : state (stepped k d w s) (s .board) ≡ d .to (s .rule)
-    unfolding stepped
+    state-stepped-same : state (taken k d w s) (s .board) ≡ d .to (s .rule)
+    unfolding taken
     state-stepped-same =
         state-tell (d .boards) (d .types) (wide k) _ _ (d .types) _ (s .board) (B .board)
         ∙ state-move-same (d .boards) (d .types) (wide k) (heard k d w s) (length-heard ∙ l) (s .board) (d .to (s .rule)) (B .board)
 
-    state-stepped-other : (q : ℕ) → q < d .boards → q ≢ s .board → state (stepped k d w s) q ≡ state w q
-    unfolding stepped
+    state-stepped-other : (q : ℕ) → q < d .boards → q ≢ s .board → state (taken k d w s) q ≡ state w q
+    unfolding taken
     state-stepped-other q hq o =
         state-tell (d .boards) (d .types) (wide k) _ _ (d .types) _ q hq
         ∙ state-move-other (d .boards) (d .types) (wide k) (heard k d w s) (length-heard ∙ l) (s .board) (d .to (s .rule)) (B .board) q o ∙ hears .states q hq
 
     -- the sent word of a type, changed where the type is new
     sent-stepped : (m : ℕ) → m < d .types → (b : Bool) → newly d (d .from (s .rule)) (d .to (s .rule)) m ≡ b
-        → sent (d .boards) (d .types) (wide k) (stepped k d w s) m ≡
+        → sent (d .boards) (d .types) (wide k) (taken k d w s) m ≡
         (bump k (columnOf k d .own (s .board)) (sent (d .boards) (d .types) (wide k) (heard k d w s) m) if b else sent (d .boards) (d .types) (wide k) (heard k d w s) m)
-    unfolding stepped
+    unfolding taken
     sent-stepped m hm b e =
         let u = set (heard k d w s) (s .board) (d .to (s .rule)) in
         let g = bump k (columnOf k d .own (s .board)) in
@@ -250,7 +253,13 @@ module _ (k : ℕ) (d : Design) (w : List ℕ) (s : Step) where
         ∙ ap (λ (x : ℕ). g x if newly d (d .from (s .rule)) (d .to (s .rule)) m else x) (sent-move (d .boards) (d .types) (wide k) (heard k d w s) (length-heard ∙ l) (s .board) (d .to (s .rule)) (B .board) m)
         ∙ ap (λ (c : Bool). g (sent (d .boards) (d .types) (wide k) (heard k d w s) m) if c else sent (d .boards) (d .types) (wide k) (heard k d w s) m) e
 
-    newly-stepped : (m : ℕ) → newly d (state w (s .board)) (state (stepped k d w s) (s .board)) m ≡ newly d (d .from (s .rule)) (d .to (s .rule)) m
+    stopped-taken : stoppedIn k d (taken k d w s) ≡ stoppedIn k d w
+    unfolding taken
+    stopped-taken =
+        stopped-tell (d .boards) (d .types) (wide k) _ _ (d .types) _ (le-refl (d .types))
+        ∙ stopped-move (d .boards) (d .types) (wide k) (heard k d w s) (length-heard ∙ l) (s .board) (d .to (s .rule)) (B .board) ∙ hears .stops
+
+    newly-stepped : (m : ℕ) → newly d (state w (s .board)) (state (taken k d w s) (s .board)) m ≡ newly d (d .from (s .rule)) (d .to (s .rule)) m
     newly-stepped m = rw (B .leaves, state-stepped-same)
 
     -- the counts after the receipt: one more of the type that was received
@@ -259,15 +268,17 @@ module _ (k : ℕ) (d : Design) (w : List ℕ) (s : Step) where
         ap (columnOf k d .card) (rcvd-heard m hm) ∙ card-added k d w (s .board) (kindOf s) (hears-of B) m
         ∙ ap (λ (b : Bool). countOf k d w (s .board) m + digit b) (unless-silent (λ κ. names κ m) s refl)
 
-    moves : ((m : ℕ) → m < d .types → d .met (s .rule) m (countOf k d (heard k d w s) (s .board) m) ≡ true)
-        → Moves d (columnOf k d) s (view k d w) (view k d (stepped k d w s))
+    moves : mem (stoppedIn k d w) (s .board) ≡ false → ((m : ℕ) → m < d .types → d .met (s .rule) m (countOf k d (heard k d w s) (s .board) m) ≡ true)
+        → Moves d (columnOf k d) s (view k d w) (view k d (taken k d w s))
     unfolding _if_else_
-    moves h =
+    moves z h =
         let C = d .boards in
         let f = d .faulty in
-        let mine : (m : ℕ) → m < d .types → rcvdIn k d (stepped k d w s) (s .board) m ≡ rcvdIn k d (heard k d w s) (s .board) m = λ m hm. rcvd-stepped (s .board) m (B .board) hm in
+        let mine : (m : ℕ) → m < d .types → rcvdIn k d (taken k d w s) (s .board) m ≡ rcvdIn k d (heard k d w s) (s .board) m = λ m hm. rcvd-stepped (s .board) m (B .board) hm in
         record {
           board = B .board;
+          awake = z;
+          stopped = stopped-taken;
           local = record { rule = B .rule; leaves = B .leaves; enters = state-stepped-same; met = λ m hm. ap (λ (M : columnOf k d .Coll). d .met (s .rule) m (columnOf k d .card M)) (mine m hm) ∙ h m hm };
           hears = hears-of B;
           receives = λ m hm. mine m hm ∙ rcvd-heard m hm;
@@ -278,8 +289,8 @@ module _ (k : ℕ) (d : Design) (w : List ℕ) (s : Step) where
         }
 
   -- ---- accepted and the relation
-  pub step-moves : length w ≡ size (d .boards) (d .types) (wide k) → stepFault k d w s ≡ 0 → Moves d (columnOf k d) s (view k d w) (view k d (stepped k d w s))
-  step-moves l h = let A = accepted h in moves l (A .arrives) (A .met)
+  pub take-moves : length w ≡ size (d .boards) (d .types) (wide k) → mem (stoppedIn k d w) (s .board) ≡ false → takeFault k d w s ≡ 0 → Moves d (columnOf k d) s (view k d w) (view k d (taken k d w s))
+  take-moves l z h = let A = accepted h in moves l (A .arrives) z (A .met)
 
   -- the relation to any configuration: the step is accepted
   module _ (l : length w ≡ size (d .boards) (d .types) (wide k)) (σ : Conf (columnOf k d .Coll)) (mv : Moves d (columnOf k d) s (view k d w) σ) where
@@ -289,11 +300,93 @@ module _ (k : ℕ) (d : Design) (w : List ℕ) (s : Step) where
     same-rcvd : (m : ℕ) → m < d .types → σ .rcvd (s .board) m ≡ rcvdIn k d (heard k d w s) (s .board) m
     same-rcvd m hm = mv .receives m hm ∙ sym (rcvd-heard l arrived m hm)
 
-    pub moves-step : stepFault k d w s ≡ 0
-    moves-step = not-refused (record {
+    pub moves-take : takeFault k d w s ≡ 0
+    moves-take = not-refused (record {
       arrives = arrived;
       met = λ m hm. ap (λ (M : columnOf k d .Coll). d .met (s .rule) m (columnOf k d .card M)) (sym (same-rcvd m hm)) ∙ mv .local .met m hm;
     })
+
+-- ---- a step: by a rule of the table, or a stop
+pub data Accepts (k : ℕ) (d : Design) (w : List ℕ) (s : Step) : Type 0 where
+  takes : isStop s ≡ false → mem (stoppedIn k d w) (s .board) ≡ false → takeFault k d w s ≡ 0 → Accepts k d w s
+  stops : isStop s ≡ true → s .board < d .boards → mem (stoppedIn k d w) (s .board) ≡ false → silent s ≡ true → stoppedCount d (stoppedIn k d w) + 1 + d .faulty ≤ d .tolerated → Accepts k d w s
+
+module _ (k : ℕ) (d : Design) (w : List ℕ) (s : Step) where
+  pub accepts-by : stepFault k d w s ≡ 0 → Accepts k d w s
+  unfolding stepFault stopFault _if_else_
+  accepts-by h =
+      let a = zero-if k d w s 20 _ _ (λ z. omega arith) h in
+      let b = zero-if k d w s 26 _ _ (λ z. omega arith) (a .1) in
+      go (isStop s) refl (leb-false _ _ (a .0)) (b .0) (b .1)
+    where
+      go : (c : Bool) → isStop s ≡ c → s .board < d .boards → mem (stoppedIn k d w) (s .board) ≡ false → (stopFault k d w s if isStop s else takeFault k d w s) ≡ 0 → Accepts k d w s
+      go false e l z q = takes e z (rw e at q)
+      go true e l z q =
+          let c = zero-if k d w s 23 (not (silent s)) _ (λ y. omega arith) (rw e at q) in
+          let f = zero-if k d w s 27 _ _ (λ y. omega arith) (c .1) in
+          stops e l z (not-false _ (c .0)) (ltb-false _ _ (f .0))
+
+  pub stepped-take : isStop s ≡ false → stepped k d w s ≡ taken k d w s
+  unfolding stepped _if_else_
+  stepped-take e = rw e
+
+  pub stepped-stop : isStop s ≡ true → stepped k d w s ≡ stop (d .boards) (d .types) (wide k) (s .board) w
+  unfolding stepped _if_else_
+  stepped-stop e = rw e
+
+  pub take-accepted : isStop s ≡ false → mem (stoppedIn k d w) (s .board) ≡ false → takeFault k d w s ≡ 0 → stepFault k d w s ≡ 0
+  unfolding stepFault _if_else_
+  take-accepted e z f = rw (lt-leb _ _ (accepted k d w s f .arrives .board), z, e) f
+
+  pub stop-accepted : isStop s ≡ true → s .board < d .boards → mem (stoppedIn k d w) (s .board) ≡ false → silent s ≡ true → stoppedCount d (stoppedIn k d w) + 1 + d .faulty ≤ d .tolerated → stepFault k d w s ≡ 0
+  unfolding stepFault stopFault _if_else_
+  stop-accepted e b z a f = rw (lt-leb _ _ b, z, e, a, le-ltb _ _ f) refl
+
+  -- an accepted step that is no stop is one by a rule
+  pub ruled : isStop s ≡ false → stepFault k d w s ≡ 0 → (mem (stoppedIn k d w) (s .board) ≡ false) × (takeFault k d w s ≡ 0)
+  ruled n h = go (accepts-by h)
+    where
+      go : Accepts k d w s → (mem (stoppedIn k d w) (s .board) ≡ false) × (takeFault k d w s ≡ 0)
+      go (takes _ a f) = (a, f)
+      go (stops e _ _ _ _) = absurd (true≢false (sym e ∙ n))
+
+  -- and one with a message is no stop
+  pub loud-rule : silent s ≡ false → stepFault k d w s ≡ 0 → isStop s ≡ false
+  loud-rule e h = go (accepts-by h)
+    where
+      go : Accepts k d w s → isStop s ≡ false
+      go (takes n _ _) = n
+      go (stops _ _ _ a _) = absurd (true≢false (sym a ∙ e))
+
+  pub length-stepped : length (stepped k d w s) ≡ length w
+  unfolding stepped stop _if_else_
+  length-stepped = go (isStop s)
+    where
+      go : (b : Bool) → length (stop (d .boards) (d .types) (wide k) (s .board) w if b else taken k d w s) ≡ length w
+      go true = length-set w _ _
+      go false = length-taken k d w s
+
+  pub step-most : stepFault k d w s ≤ 27
+  unfolding stepFault stopFault
+  step-most =
+      if-most _ (omega arith) (if-most _ (omega arith) (if-most _ (if-most _ (omega arith) (if-most _ (omega arith) (omega arith))) (omega (arith, take-most k d w s))))
+
+  pub step-related : length w ≡ size (d .boards) (d .types) (wide k) → stepFault k d w s ≡ 0 → Steps d (columnOf k d) s (view k d w) (view k d (stepped k d w s))
+  step-related l h = go (accepts-by h)
+    where
+      go : Accepts k d w s → Steps d (columnOf k d) s (view k d w) (view k d (stepped k d w s))
+      go (takes e z f) = subst⁻¹ (λ (v : List ℕ). Steps d (columnOf k d) s (view k d w) (view k d v)) (stepped-take e) (byRule e (take-moves k d w s l z f))
+      go (stops e b z a f) = subst⁻¹ (λ (v : List ℕ). Steps d (columnOf k d) s (view k d w) (view k d v)) (stepped-stop e) (byStop (record {
+        board = b;
+        rule = eqb-true (s .rule) stopRule e;
+        alone = a;
+        awake = z;
+        allowed = f;
+        stops = stopped-stop (d .boards) (d .types) (wide k) w l (s .board);
+        pc = λ p h. state-stop (d .boards) (d .types) (wide k) w l (s .board) p h;
+        rcvd = λ p m hp hm. coll-same k (d .boards) (d .faulty) _ _ (λ i hi. cell-stop (d .boards) (d .types) (wide k) w l (s .board) p m i hp hm hi);
+        sent = λ m hm. ap (shown k (d .boards) (d .faulty)) (sent-stop (d .boards) (d .types) (wide k) w l (s .board) m hm);
+      }))
 
 -- ---- the relation gives one configuration
 module _ (d : Design) (I : Interp) (s : Step) (σ σ′ σ″ : Conf (I .Coll)) (a : Moves d I s σ σ′) (b : Moves d I s σ σ″) where
@@ -308,6 +401,7 @@ module _ (d : Design) (I : Interp) (s : Step) (σ σ′ σ″ : Conf (I .Coll)) 
 
   pub moves-one : Same d I σ′ σ″
   moves-one = record {
+    stopped = a .stopped ∙ sym (b .stopped);
     pc = λ q h. same-or (λ (x : ℕ). σ′ .pc x ≡ σ″ .pc x) p q same-pc (λ o. a .others-pc q h o ∙ sym (b .others-pc q h o));
     rcvd = λ q m h hm.
         same-or (λ (x : ℕ). σ′ .rcvd x m ≡ σ″ .rcvd x m) p q (a .receives m hm ∙ sym (b .receives m hm)) (λ o. a .others-rcvd q m h hm o ∙ sym (b .others-rcvd q m h hm o));

@@ -11,9 +11,10 @@ use native.Mathlib.Decide.{ℕ-discrete, decLt}
 use lib.Arith.{digits-lt, digits-div, digits-mod}
 use lib.ListN.{length, getD, set, replicate, length-set, length-replicate, length-append, List·getD-append}
 use lib.Seq.{getD-set-same, getD-set-other, getD-append-add, ext-getD}
+use Rattle.senders.specs.Set.{insert}
 use Rattle.fault.specs.Fault.{_if_else_}
 use Rattle.fault.proofs.FaultLaws.{if-keeps}
-use Rattle.paper.specs.Words.{size, cellAt, sentAt, state, cell, sent, hear, tell, start}
+use Rattle.paper.specs.Words.{size, cellAt, sentAt, stoppedAt, state, cell, sent, stopped, hear, tell, stop, start}
 
 right-pos : (a b : ℕ) → 0 < a * b → 0 < b
 right-pos a zero h = rw mul-zero at h
@@ -60,6 +61,10 @@ module _ (C T k : ℕ) where
     unfolding hear cell
     cell-hear-other q j i hj hi no′ = getD-set-other w _ _ _ 0 (λ h. no′ (cell-inj q j i p m e hj hi hm he h))
 
+    pub stopped-hear : stopped C T k (hear C T k p m e g w) ≡ stopped C T k w
+    unfolding hear stopped stoppedAt sentAt
+    stopped-hear = getD-set-other w _ _ _ 0 (unfold sentAt in omega (arith, cell-below p m e hp hm he))
+
   -- ---- a move
   module _ (w : List ℕ) (l : length w ≡ size C T k) (p v : ℕ) (hp : p < C) where
     pub state-move-same : state (set w p v) p ≡ v
@@ -77,6 +82,10 @@ module _ (C T k : ℕ) where
     pub sent-move : (j : ℕ) → sent C T k (set w p v) j ≡ sent C T k w j
     unfolding sent sentAt
     sent-move j = getD-set-other w p _ v 0 (omega arith)
+
+    pub stopped-move : stopped C T k (set w p v) ≡ stopped C T k w
+    unfolding stopped stoppedAt
+    stopped-move = getD-set-other w p _ v 0 (omega arith)
 
   -- ---- a send
   module _ (new : ℕ → Bool) (g : ℕ → ℕ) where
@@ -119,6 +128,14 @@ module _ (C T k : ℕ) where
         let u = tell C T k new g n v in
         let ih = sent-tell-above n v j (omega arith) in
         if-keeps (λ (x : List ℕ). sent C T k x j ≡ sent C T k v j) (put u n) (new n) u (λ e. put-other u n j (omega arith) ∙ ih) (λ e. ih)
+
+    pub stopped-tell : (n : ℕ) (v : List ℕ) → n ≤ T → stopped C T k (tell C T k new g n v) ≡ stopped C T k v
+    unfolding tell stopped stoppedAt sentAt
+    stopped-tell zero v h = refl
+    stopped-tell (suc n) v h =
+        let u = tell C T k new g n v in
+        let ih = stopped-tell n v (omega arith) in
+        if-keeps (λ (x : List ℕ). getD x (stoppedAt C T k) 0 ≡ getD v (stoppedAt C T k) 0) (put u n) (new n) u (λ e. getD-set-other u _ _ _ 0 (unfold stoppedAt in omega arith) ∙ ih) (λ e. ih)
 
     -- each sent word: changed where its type is new
     module _ (v : List ℕ) (l : length v ≡ size C T k) where
@@ -165,7 +182,7 @@ module _ (C T k : ℕ) where
     pub start-high : (i : ℕ) → C ≤ i → getD (start T k starts) i 0 ≡ 0
     unfolding start
     start-high i h =
-        let n = length starts * T * k + T in
+        let n = length starts * T * k + T + 1 in
         let e : length starts + (i - C) ≡ i = omega arith in
         subst (λ (x : ℕ). getD (starts ++ replicate n 0) x 0 ≡ 0) e (getD-append-add starts _ (i - C) 0 ∙ zeros n (i - C))
 
@@ -181,22 +198,52 @@ module _ (C T k : ℕ) where
     unfolding cell
     cell-start p m e = start-high _ (cell-above p m e)
 
+    pub stopped-start : stopped C T k (start T k starts) ≡ 0
+    unfolding stopped stoppedAt
+    stopped-start = start-high _ (omega arith)
+
     pub sent-start : (m : ℕ) → sent C T k (start T k starts) m ≡ 0
     unfolding sent sentAt
     sent-start m = start-high _ (omega arith)
 
+  -- ---- a stop
+  module _ (w : List ℕ) (l : length w ≡ size C T k) (p : ℕ) where
+    pub length-stop : length (stop C T k p w) ≡ length w
+    unfolding stop
+    length-stop = length-set w _ _
+
+    pub stopped-stop : stopped C T k (stop C T k p w) ≡ insert p (stopped C T k w)
+    unfolding stop stopped stoppedAt
+    stopped-stop = getD-set-same w _ _ 0 (rw l (unfold size in omega arith))
+
+    pub state-stop : (q : ℕ) → q < C → state (stop C T k p w) q ≡ state w q
+    unfolding stop state stoppedAt
+    state-stop q h = getD-set-other w _ q _ 0 (omega arith)
+
+    pub cell-stop : (q j i : ℕ) → q < C → j < T → i < k → cell C T k (stop C T k p w) q j i ≡ cell C T k w q j i
+    unfolding stop cell stoppedAt
+    cell-stop q j i hq hj hi = getD-set-other w _ _ _ 0 (unfold sentAt in omega (arith, cell-below q j i hq hj hi))
+
+    pub sent-stop : (j : ℕ) → j < T → sent C T k (stop C T k p w) j ≡ sent C T k w j
+    unfolding stop sent sentAt stoppedAt
+    sent-stop j h = getD-set-other w _ _ _ 0 (omega arith)
+
   -- ---- words with the same views are the same
   pub same-words : (w u : List ℕ) → length w ≡ size C T k → length u ≡ size C T k → ((p : ℕ) → p < C → state w p ≡ state u p)
-      → ((p m e : ℕ) → p < C → m < T → e < k → cell C T k w p m e ≡ cell C T k u p m e) → ((m : ℕ) → m < T → sent C T k w m ≡ sent C T k u m) → w ≡ u
-  unfolding size state cell sent cellAt sentAt
-  same-words w u lw lu ep ec es = ext-getD 0 w u (lw ∙ sym lu) (λ i h. at i (rw lw at h))
+      → ((p m e : ℕ) → p < C → m < T → e < k → cell C T k w p m e ≡ cell C T k u p m e) → ((m : ℕ) → m < T → sent C T k w m ≡ sent C T k u m) → stopped C T k w ≡ stopped C T k u → w ≡ u
+  unfolding size state cell sent stopped cellAt sentAt stoppedAt
+  same-words w u lw lu ep ec es et = ext-getD 0 w u (lw ∙ sym lu) (λ i h. at i (rw lw at h))
     where
       at : (i : ℕ) → i < size C T k → getD w i 0 ≡ getD u i 0
       at i h = go (decLt i C) (decLt i (C + C * T * k))
         where
           go : Dec (i < C) → Dec (i < C + C * T * k) → getD w i 0 ≡ getD u i 0
           go (yes a) b = ep i a
-          go (no a) (no b) = subst (λ (x : ℕ). getD w x 0 ≡ getD u x 0) (omega arith) (es (i - (C + C * T * k)) (omega arith))
+          go (no a) (no b) = last (decLt i (C + C * T * k + T))
+            where
+              last : Dec (i < C + C * T * k + T) → getD w i 0 ≡ getD u i 0
+              last (yes c) = subst (λ (x : ℕ). getD w x 0 ≡ getD u x 0) (omega arith) (es (i - (C + C * T * k)) (omega arith))
+              last (no c) = subst (λ (x : ℕ). getD w x 0 ≡ getD u x 0) (omega arith) et
           go (no a) (yes b) =
               let x : ℕ = i - C in
               let hk = right-pos (C * T) k (omega arith) in

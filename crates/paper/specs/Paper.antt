@@ -3,7 +3,7 @@
 use mathlib.Core.Path.{_≡_}
 use mathlib.Core.Logic.{_≢_}
 use mathlib.Core.Bool.{Bool, true, false, not, _&&_, _||_}
-use Prim.Native.Nat.{ℕ, zero, suc, _+_, _<_}
+use Prim.Native.Nat.{ℕ, zero, suc, _+_, _≤_, _<_}
 use lib.Dec.{eqb}
 use Rattle.senders.specs.Tally.{count}
 use Rattle.senders.specs.Set.{mem, insert, missing}
@@ -16,6 +16,8 @@ pub record Design : Type 0 where
   pub boards : ℕ
   -- how many processes are faulty, Byz
   pub faulty : ℕ
+  -- how many may be faulty or stopped, t (Q-11)
+  pub tolerated : ℕ
   -- the message types, MT
   pub types : ℕ
   -- the local transitions; waiting is a rule too, since every receipt needs one (outline)
@@ -112,18 +114,22 @@ pub record Conf (A : Type 0) : Type 0 where
   pub pc : ℕ → ℕ
   pub rcvd : ℕ → ℕ → A
   pub sent : ℕ → A
+  -- the boards that have lost power, as a set (Q-11)
+  pub stopped : ℕ
 
 -- two configurations are the same, for all boards and types that there are
 pub record Same (d : Design) (I : Interp) (σ σ′ : Conf (I .Coll)) : Type 0 where
   pub pc : (p : ℕ) → p < d .boards → σ .pc p ≡ σ′ .pc p
   pub rcvd : (p m : ℕ) → p < d .boards → m < d .types → σ .rcvd p m ≡ σ′ .rcvd p m
   pub sent : (m : ℕ) → m < d .types → σ .sent m ≡ σ′ .sent m
+  pub stopped : σ .stopped ≡ σ′ .stopped
 
 -- every board in an initial state, nothing received, nothing sent
 pub record Initial (d : Design) (I : Interp) (σ : Conf (I .Coll)) : Type 0 where
   pub pc : (p : ℕ) → p < d .boards → d .initial (σ .pc p) ≡ true
   pub rcvd : (p m : ℕ) → p < d .boards → m < d .types → σ .rcvd p m ≡ I .init
   pub sent : (m : ℕ) → m < d .types → σ .sent m ≡ I .init
+  pub stopped : σ .stopped ≡ 0
 
 -- ---- a step, as a schedule names it (outline, "Bundle layout")
 pub record Step : Type 0 where
@@ -168,9 +174,33 @@ abbrev pub added : (I : Interp) → Kind → (ℕ → I .Coll) → ℕ → I .Co
 added I silence rcvd m = rcvd m
 added I (message t q) rcvd m = I .add q (rcvd m) if eqb t m else rcvd m
 
--- Definition 3.2, for the step s
+-- a step that stops its board: rule 254, with no message (Q-11). The rule is never looked up in the table
+abbrev pub stopRule : ℕ
+stopRule = 254
+
+abbrev pub isStop : Step → Bool
+isStop s = eqb (s .rule) stopRule
+
+-- how many boards of a set are stopped (Q-11)
+abbrev pub stoppedCount : Design → ℕ → ℕ
+stoppedCount d S = count (d .boards) (mem S)
+
+-- what a stop does: the board is among the stopped ones, and nothing else changes; what it had sent stays sent to all (Q-11)
+pub record Stops (d : Design) (I : Interp) (s : Step) (σ σ′ : Conf (I .Coll)) : Type 0 where
+  pub board : s .board < d .boards
+  pub rule : s .rule ≡ stopRule
+  pub alone : silent s ≡ true
+  pub awake : mem (σ .stopped) (s .board) ≡ false
+  pub allowed : stoppedCount d (σ .stopped) + 1 + d .faulty ≤ d .tolerated
+  pub stops : σ′ .stopped ≡ insert (s .board) (σ .stopped)
+  pub pc : (p : ℕ) → p < d .boards → σ′ .pc p ≡ σ .pc p
+  pub rcvd : (p m : ℕ) → p < d .boards → m < d .types → σ′ .rcvd p m ≡ σ .rcvd p m
+  pub sent : (m : ℕ) → m < d .types → σ′ .sent m ≡ σ .sent m
+
+-- Definition 3.2, for the step s of a board that is not stopped
 pub record Moves (d : Design) (I : Interp) (s : Step) (σ σ′ : Conf (I .Coll)) : Type 0 where
   pub board : s .board < d .boards
+  pub awake : mem (σ .stopped) (s .board) ≡ false
   -- 1: a local transition, at the counts after the receipt
   pub local : Leads d (s .rule) (σ .pc (s .board)) (λ m. I .card (σ′ .rcvd (s .board) m)) (σ′ .pc (s .board))
   -- 2a: no message, or one that is in transit in σ; it is received in σ′
@@ -182,7 +212,13 @@ pub record Moves (d : Design) (I : Interp) (s : Step) (σ σ′ : Conf (I .Coll)
   -- 3: the other boards do not change
   pub others-pc : (q : ℕ) → q < d .boards → q ≢ s .board → σ′ .pc q ≡ σ .pc q
   pub others-rcvd : (q m : ℕ) → q < d .boards → m < d .types → q ≢ s .board → σ′ .rcvd q m ≡ σ .rcvd q m
+  pub stopped : σ′ .stopped ≡ σ .stopped
 
--- the paper's relation R between two configurations: some step leads from one to the other
+-- a step: a local transition, or a stop
+pub data Steps (d : Design) (I : Interp) (s : Step) (σ σ′ : Conf (I .Coll)) : Type 0 where
+  byRule : isStop s ≡ false → Moves d I s σ σ′ → Steps d I s σ σ′
+  byStop : Stops d I s σ σ′ → Steps d I s σ σ′
+
+-- the paper's relation R between two configurations, with stops: some step leads from one to the other
 abbrev pub R : (d : Design) (I : Interp) → Conf (I .Coll) → Conf (I .Coll) → Type 0
-R d I σ σ′ = (s : Step) × Moves d I s σ σ′
+R d I σ σ′ = (s : Step) × Steps d I s σ σ′

@@ -1,13 +1,14 @@
--- One step on the words of level k (outline, "One step"): the first of the refusals 20 to 25, and the words after the step.
+-- One step on the words of level k (outline, "One step", with Q-11): the first of the refusals 20, 26, 27 and 21 to 25, and the words after the step.
 use mathlib.Core.Bool.{Bool, false, not, _||_}
 use mathlib.Core.List.{List}
-use Prim.Native.Nat.{ℕ}
+use Prim.Native.Nat.{ℕ, _+_}
 use lib.ListN.{set}
 use Rattle.senders.specs.Tally.{every}
-use Rattle.fault.specs.Tests.{_atLeast_, _differs_}
+use Rattle.fault.specs.Tests.{_atLeast_, _over_, _differs_}
 use Rattle.fault.specs.Fault.{_if_else_}
-use Rattle.paper.specs.Paper.{Design, Interp, Conf, Step, Kind, silence, message, kindOf, column, newly}
-use Rattle.paper.specs.Words.{state, cell, sent, hear, tell}
+use Rattle.senders.specs.Set.{mem}
+use Rattle.paper.specs.Paper.{Design, Interp, Conf, Step, Kind, silence, message, kindOf, silent, column, newly, isStop, stoppedCount}
+use Rattle.paper.specs.Words.{state, cell, sent, stopped, hear, tell, stop}
 use Rattle.paper.specs.Form.{wide, slot, bump, coll, shown}
 
 -- ---- what the words show
@@ -20,8 +21,11 @@ rcvdIn k d w p m = coll k (d .boards) (d .faulty) (cell (d .boards) (d .types) (
 abbrev pub sentIn : (k : ℕ) (d : Design) → List ℕ → ℕ → columnOf k d .Coll
 sentIn k d w m = shown k (d .boards) (d .faulty) (sent (d .boards) (d .types) (wide k) w m)
 
+abbrev pub stoppedIn : ℕ → Design → List ℕ → ℕ
+stoppedIn k d w = stopped (d .boards) (d .types) (wide k) w
+
 abbrev pub view : (k : ℕ) (d : Design) → List ℕ → Conf (columnOf k d .Coll)
-view k d w = record { pc = state w; rcvd = rcvdIn k d w; sent = sentIn k d w }
+view k d w = record { pc = state w; rcvd = rcvdIn k d w; sent = sentIn k d w; stopped = stoppedIn k d w }
 
 -- the messages of one type that board p counts
 abbrev pub countOf : ℕ → Design → List ℕ → ℕ → ℕ → ℕ
@@ -35,10 +39,14 @@ receipt k d w p (message m q) = hear (d .boards) (d .types) (wide k) p m (slot k
 unfoldable pub heard : ℕ → Design → List ℕ → Step → List ℕ
 heard k d w s = receipt k d w (s .board) (kindOf s)
 
-unfoldable pub stepped : ℕ → Design → List ℕ → Step → List ℕ
-stepped k d w s =
+-- by a rule of the table
+unfoldable pub taken : ℕ → Design → List ℕ → Step → List ℕ
+taken k d w s =
     tell (d .boards) (d .types) (wide k) (newly d (d .from (s .rule)) (d .to (s .rule))) (bump k (columnOf k d .own (s .board))) (d .types)
     (set (heard k d w s) (s .board) (d .to (s .rule)))
+
+unfoldable pub stepped : ℕ → Design → List ℕ → Step → List ℕ
+stepped k d w s = stop (d .boards) (d .types) (wide k) (s .board) w if isStop s else taken k d w s
 
 -- ---- the refusals
 -- 23: type or source out of range, or only one of the two is 255
@@ -61,9 +69,9 @@ notInTransit k d w s = notComing k d w (s .board) (kindOf s)
 unfoldable pub notMet : ℕ → Design → List ℕ → Step → Bool
 notMet k d w s = not (every (d .types) (λ m. d .met (s .rule) m (countOf k d (heard k d w s) (s .board) m)))
 
--- 20: board not below n-f; 21: rule not in the table; 22: rule does not leave p's state; then 23, 24, 25; 0: the step is accepted
-unfoldable pub stepFault : ℕ → Design → List ℕ → Step → ℕ
-stepFault k d w s =
+-- by a rule of the table: 20: board not below n-f; 21: rule not in the table; 22: rule does not leave p's state; then 23, 24, 25
+unfoldable pub takeFault : ℕ → Design → List ℕ → Step → ℕ
+takeFault k d w s =
     20 if s .board atLeast d .boards else
     21 if s .rule atLeast d .rules else
     22 if state w (s .board) differs d .from (s .rule) else
@@ -71,3 +79,18 @@ stepFault k d w s =
     24 if notInTransit k d w s else
     25 if notMet k d w s else
     0
+
+-- of a stop: 23 if a message is present, 27 if no more boards may stop (Q-11)
+unfoldable pub stopFault : ℕ → Design → List ℕ → Step → ℕ
+stopFault k d w s =
+    23 if not (silent s) else
+    27 if (stoppedCount d (stoppedIn k d w) + 1 + d .faulty) over d .tolerated else
+    0
+
+-- 20, then 26: the board is stopped, also for a second stop; then those of a stop or of a rule; 0: the step is accepted
+unfoldable pub stepFault : ℕ → Design → List ℕ → Step → ℕ
+stepFault k d w s =
+    20 if s .board atLeast d .boards else
+    26 if mem (stoppedIn k d w) (s .board) else
+    stopFault k d w s if isStop s else
+    takeFault k d w s

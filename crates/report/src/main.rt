@@ -58,7 +58,7 @@ fn print_result(refusal: u64, place: u64, count: u64) {
     end_line();
 }
 
-// A line for each board, then one for what was sent.
+// A line for each board, then one for what was sent and one for the stopped boards.
 fn print_configuration(s: Sizes, w: &[u64])
     requires { ⌜ (Bounded s) × (length (now w) ≡ roomOf s) ⌝ }
 {
@@ -67,6 +67,7 @@ fn print_configuration(s: Sizes, w: &[u64])
         print_board(s, w, p);
     }
     print_sent(s, w);
+    print_stopped(s, w);
 }
 
 // Board, state, then the counts of each type.
@@ -102,6 +103,15 @@ fn print_sent(s: Sizes, w: &[u64])
     for m in 0..types {
         print_next(words::sent_in(s, w, m));
     }
+    end_line();
+}
+
+// The set of stopped boards, as its word.
+fn print_stopped(s: Sizes, w: &[u64])
+    requires { ⌜ (Bounded s) × (length (now w) ≡ roomOf s) ⌝ }
+{
+    io::write_all(1, b"stopped");
+    print_next(words::stopped_in(s, w));
     end_line();
 }
 

@@ -156,11 +156,11 @@ module _ (s : Sizes) (t : ℕ) (table : List ℕ) where
       ap₂ (newly d) (from-is r h) (to-is r h) ∙ λ i m. sent-is (toOf table r) (E .to) m i && not (sent-is (fromOf table r) (E .from) m i)
 
 -- ---- all of them stand for the table's design
-pub kept-by : (s : Sizes) (t : ℕ) (table e l : List ℕ) → Suits s table → EndsTo (s .types) table e (s .rules) → LeastsTo s t table l (s .rules) → Kept (designOf s t table) s e l
-kept-by s t table e l S E L = record {
+pub kept-by : (s : Sizes) (t : ℕ) (table e l : List ℕ) → Suits s table → EndsTo (s .types) table e (s .rules) → LeastsTo s t table l (s .rules) → t ≡ s .tolerated → Kept (designOf s t table) s e l
+kept-by s t table e l S E L h = record {
   ends = record {
     long = E .long;
-    numbers = record { boards = refl; faulty = refl; types = refl; rules = refl };
+    numbers = record { boards = refl; faulty = refl; tolerated = h; types = refl; rules = refl };
     from = λ r h. E .at r h .from ∙ sym (from-is s t table r h);
     to = λ r h. E .at r h .to ∙ sym (to-is s t table r h);
     sends = λ r h. E .at r h .sends ∙ ap (least (s .types)) (sym (newly-is s t table S r h));

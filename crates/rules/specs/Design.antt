@@ -34,6 +34,7 @@ abbrev pub designOf : Sizes → ℕ → List ℕ → Design
 designOf s t tab = record {
   boards = s .correct;
   faulty = s .faulty;
+  tolerated = t;
   types = s .types;
   rules = s .rules;
   initial = λ i. i below statesOf tab && initialOf tab i;

@@ -32,6 +32,7 @@ keptLeast leasts r m = getD leasts (r * 4 + m) 0
 pub record Numbers (d : Design) (s : Sizes) : Type 0 where
   pub boards : d .boards ≡ s .correct
   pub faulty : d .faulty ≡ s .faulty
+  pub tolerated : d .tolerated ≡ s .tolerated
   pub types : d .types ≡ s .types
   pub rules : d .rules ≡ s .rules
 
@@ -66,6 +67,7 @@ abbrev pub keptDesign : Sizes → List ℕ → List ℕ → Design
 keptDesign s ends leasts = record {
   boards = s .correct;
   faulty = s .faulty;
+  tolerated = s .tolerated;
   types = s .types;
   rules = s .rules;
   initial = λ i. false;

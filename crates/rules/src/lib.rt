@@ -20,7 +20,7 @@ pub const ROOM: usize = 256;
 // The state that rule r leaves.
 pub fn from(ends: &[u8], r: usize) -> usize
     requires { ⌜ (length (now ends) ≡ keptRoom) × (r < 64) ⌝ }
-    ensures { λ x. ⌜ x ≡ keptFrom (now (ends .entry)) r ⌝ }
+    ensures { λ x. ⌜ (x ≡ keptFrom (now (ends .entry)) r) × (x < 256) ⌝ }
 {
     fault::byte_at(ends, r * 4)
 }
@@ -60,7 +60,7 @@ fn as_count(x: u16) -> u64
 // ---- reading them
 // Keeps all rules of the table, record by record.
 pub fn keep(table: &[u8], t: usize, s: Sizes, ends: &mut [u8], leasts: &mut [u16])
-    requires { ⌜ (Suits s (now table)) × (t ≤ mostTolerated) × (length (now ends) ≡ keptRoom) × (length (now leasts) ≡ keptRoom) ⌝ }
+    requires { ⌜ (Suits s (now table)) × (t ≤ mostTolerated) × (length (now ends) ≡ keptRoom) × (length (now leasts) ≡ keptRoom) × (t ≡ s .tolerated) ⌝ }
     ensures { λ x. ⌜ Kept (designOf s t (now (table .entry))) s (now (ends .exit)) (now (leasts .exit)) ⌝ }
 {
     let states = table::states(table);

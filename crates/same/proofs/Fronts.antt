@@ -100,7 +100,7 @@ module _ (s c : List ℕ) (some : 1 ≤ length s) (whole : length c ≡ startDis
       firstFault (startFault s (starts i)) (correct i)
 
   sizes : sizesOf s b ≡ sizesOf s c
-  sizes = λ i. record { level = levelOf (at 7 i); correct = correct i; faulty = at 6 i; types = typesOf s; rules = rulesOf s; wide = wide (levelOf (at 7 i)); row = typesOf s * wide (levelOf (at 7 i)) }
+  sizes = λ i. record { level = levelOf (at 7 i); correct = correct i; faulty = at 6 i; types = typesOf s; rules = rulesOf s; wide = wide (levelOf (at 7 i)); row = typesOf s * wide (levelOf (at 7 i)); tolerated = at 5 i }
 
   pub as-beside : (standing : List ℕ) → SameRun b standing c s
   as-beside standing =

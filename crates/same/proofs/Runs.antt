@@ -80,7 +80,7 @@ module _ {b st st′ : List ℕ} (E : SameRun b st b st′) where
 module _ (b : List ℕ) {s s′ : List ℕ} (E : SameTable s s′) (c : Clean (tableFault s)) (c′ : Clean (tableFault s′)) where
   sizes-same : sizesOf s b ≡ sizesOf s′ b
   sizes-same =
-      λ i. record { level = levelOf (formOf b); correct = correctOf b; faulty = fOf b; types = E .types i; rules = E .rules i; wide = wide (levelOf (formOf b)); row = E .types i * wide (levelOf (formOf b)) }
+      λ i. record { level = levelOf (formOf b); correct = correctOf b; faulty = fOf b; types = E .types i; rules = E .rules i; wide = wide (levelOf (formOf b)); row = E .types i * wide (levelOf (formOf b)); tolerated = tOf b }
 
   pub beside : frontLength b ≡ 0 → SameRun b s b s′
   beside z =

@@ -129,6 +129,7 @@ module _ (s s′ : List ℕ) (E : SameTable s s′) where
       λ i. record {
         boards = z .correct;
         faulty = z .faulty;
+        tolerated = t;
         types = z .types;
         rules = z .rules;
         initial = λ x. and-same x (E .states) (initial-same x) i;

@@ -1,12 +1,12 @@
 -- Laws of membership, and the counts' laws that specs/Laws.antt states.
-use mathlib.Core.Path.{_≡_, refl, sym, ap, _∙_, subst}
+use mathlib.Core.Path.{_≡_, refl, sym, ap, _∙_, subst, subst⁻¹}
 use mathlib.Core.Logic.{_≢_}
 use mathlib.Core.Bool.{true, false, not}
 use Prim.Native.Nat.{ℕ, zero, suc, _+_, _-_, _/_, _%_, _^_, _<_, max}
 use native.Mathlib.Nat.{mod-lt, zero-div, div-self, div-eq-of-lt, div-one, mul-mod-left, pow-suc}
 use native.Mathlib.Numerals.{one-add}
 use native.Mathlib.Omega.{arith}
-use native.Mathlib.Decide.{decLt}
+use native.Mathlib.Decide.{decLt, ℕ-discrete}
 use lib.Dec.{eqb}
 use lib.Arith.{bin-ind}
 use lib.Bits.{bitOr, or-step, or-comm, or-shr, or-mod, or-zero-r}
@@ -75,6 +75,14 @@ or-swap = bin-ind (λ (s : ℕ). (a b : ℕ) → bitOr (bitOr s a) b ≡ bitOr (
 
     go : (s a b : ℕ) → bitOr (bitOr (s / 2) (a / 2)) (b / 2) ≡ bitOr (bitOr (s / 2) (b / 2)) (a / 2) → bitOr (bitOr s a) b ≡ bitOr (bitOr s b) a
     go s a b ih = rw (or-step (bitOr s a) b, or-step (bitOr s b) a, half, half, low, low, ih) (omega arith)
+
+-- who is there stays there
+pub insert-keeps : (p q s : ℕ) → mem s q ≡ true → mem (insert p s) q ≡ true
+insert-keeps p q s h = go (ℕ-discrete q p)
+  where
+    go : Dec (q ≡ p) → mem (insert p s) q ≡ true
+    go (yes e) = subst⁻¹ (λ (x : ℕ). mem (insert p s) x ≡ true) e (set-laws .insert-same s p)
+    go (no o) = set-laws .insert-other s p q o ∙ h
 
 pub insert-swap : (p q s : ℕ) → insert p (insert q s) ≡ insert q (insert p s)
 unfolding insert

@@ -30,7 +30,7 @@ pub fn with(set: u64, q: u64) -> u64
     requires { ⌜ q < mostBoards ⌝ }
     ensures { λ r. ⌜ r ≡ insert q set ⌝ }
 {
-    set | (1u64 << q)
+    set | (1u64 << (q % 64))
 }
 
 // The senders below c, as a set.

@@ -4,33 +4,36 @@ use mathlib.Core.Path.{_≡_, refl, sym, ap, ap₂, _∙_, subst⁻¹}
 use mathlib.Core.Bool.{Bool, true, false, not}
 use mathlib.Core.List.{List}
 use Prim.Native.Nat.{ℕ, _+_, _≤_, _<_}
-use native.Mathlib.Decide.{decLt}
+use native.Mathlib.Decide.{decLt, ℕ-discrete}
 use native.Mathlib.Omega.{arith}
 use lib.Dec.{eqb, ltb}
 use lib.ListN.{length, set, length-set}
 use borrow.Author.Tests.{lt-ltb, le-ltb, le-leb, ne-eqb}
 use Rattle.senders.specs.Tally.{count, least}
+use Rattle.senders.specs.Set.{mem}
 use Rattle.senders.proofs.TallyLaws.{every-same, least-first, least-found, count-only}
 use Rattle.fault.specs.Tests.{_atLeast_, _differs_}
 use Rattle.fault.specs.Fault.{_if_else_}
-use Rattle.paper.specs.Paper.{Design, Step, newly, silent}
-use Rattle.paper.specs.Words.{sentAt, cell, sent, hear, tell, state}
+use Rattle.fault.proofs.FaultLaws.{if-keeps}
+use Rattle.paper.specs.Paper.{Design, Step, newly, silent, isStop}
+use Rattle.paper.specs.Words.{sentAt, stoppedAt, cell, sent, hear, tell, stop, state}
 use Rattle.paper.specs.Form.{wide, bump}
-use Rattle.paper.specs.Step.{heard, stepped, malformed, notInTransit, notMet, stepFault}
+use Rattle.paper.specs.Step.{heard, taken, malformed, notInTransit, notMet, takeFault, stopFault, stepFault, stepped}
 use Rattle.paper.proofs.WordLaws.{tell-none, tell-one}
-use Rattle.paper.proofs.StepLaws.{accepted, malformed-if, transit-if, heard-if, length-heard, heard-silent, heard-message}
+use Rattle.paper.proofs.StepLaws.{accepted, malformed-if, transit-if, heard-if, length-heard, heard-silent, heard-message, ruled}
 use Rattle.words.specs.declared.Sizes.{Sizes}
-use Rattle.words.specs.Words.{columnIn, countIn}
+use Rattle.words.specs.Words.{columnIn, countIn, stoppedOf}
 use Rattle.words.specs.Facts.{Holds, Grown}
-use Rattle.words.proofs.KeepLaws.{Under, under-more, under-bump, holds-more, holds-put}
+use Rattle.words.proofs.KeepLaws.{Under, under-more, under-bump, holds-more, holds-put, holds-stop}
 use Rattle.rules.specs.Kept.{keptTo, keptSends, keptLeast, keptDesign, Numbers, KeptEnds, Kept}
-use Rattle.step.specs.Step.{leftBy, sized, sentOnce, movedBy, keptStepped, keptFault, keptLeft}
+use Rattle.step.specs.Step.{leftBy, sized, sentOnce, movedBy, keptTaken, takenFault, keptStepped, keptFault, keptLeft}
 
 -- ---- a design with the numbers s is itself
 abbrev pub numbered : Sizes → Design → Design
 numbered s d = record {
   boards = s .correct;
   faulty = s .faulty;
+  tolerated = s .tolerated;
   types = s .types;
   rules = s .rules;
   initial = d .initial;
@@ -45,6 +48,7 @@ pub numbered-is : (d : Design) (s : Sizes) → Numbers d s → d ≡ numbered s 
 numbered-is d s N = λ i. record {
   boards = N .boards i;
   faulty = N .faulty i;
+  tolerated = N .tolerated i;
   types = N .types i;
   rules = N .rules i;
   initial = d .initial;
@@ -72,9 +76,9 @@ unfolding _if_else_
 early true b y z h = refl
 early false b y z h = rw h
 
-pub fault-kept : (d : Design) (s : Sizes) (e l : List ℕ) → Kept d s e l → (w : List ℕ) (x : Step) → stepFault (s .level) d w x ≡ keptFault s e l w x
-unfolding stepFault notMet
-fault-kept d s e l K w x = ap (λ (D : Design). stepFault (s .level) D w x) (numbered-is d s (K .ends .numbers)) ∙ go (decLt (x .rule) (s .rules))
+pub take-fault-kept : (d : Design) (s : Sizes) (e l : List ℕ) → Kept d s e l → (w : List ℕ) (x : Step) → takeFault (s .level) d w x ≡ takenFault s e l w x
+unfolding takeFault notMet
+take-fault-kept d s e l K w x = ap (λ (D : Design). takeFault (s .level) D w x) (numbered-is d s (K .ends .numbers)) ∙ go (decLt (x .rule) (s .rules))
   where
     k : Design
     k = keptDesign s e l
@@ -92,7 +96,7 @@ fault-kept d s e l K w x = ap (λ (D : Design). stepFault (s .level) D w x) (num
     unmet h = ap not (every-same (s .types) _ _ (λ m hm.
         K .leasts .met (x .rule) m _ h hm ∙ ap (λ (v : List ℕ). countIn s v (x .board) m atLeast keptLeast l (x .rule) m) hears))
 
-    go : Dec (x .rule < s .rules) → stepFault (s .level) (numbered s d) w x ≡ keptFault s e l w x
+    go : Dec (x .rule < s .rules) → takeFault (s .level) (numbered s d) w x ≡ takenFault s e l w x
     go (yes h) = λ i. 20 if x .board atLeast s .correct else 21 if x .rule atLeast s .rules else rest (state w (x .board) differs sym (K .ends .from (x .rule) h) i) (mal i) (away i) (unmet h i)
     go (no h) = early (x .board atLeast s .correct) (x .rule atLeast s .rules) (restOf s (numbered s d) w x) (restOf s (keptDesign s e l) w x) (le-leb (s .rules) (x .rule) (omega arith))
 
@@ -133,31 +137,23 @@ length-sent s p m v = go (ltb m (s .types))
 pub length-moved : (s : Sizes) (ends : List ℕ) (p r : ℕ) (w : List ℕ) → length (movedBy s ends p r w) ≡ length w
 length-moved s ends p r w = length-sent s p (keptSends ends r) (set w p (keptTo ends r)) ∙ length-set w p (keptTo ends r)
 
-pub length-kept : (s : Sizes) (ends w : List ℕ) (x : Step) → length (keptStepped s ends w x) ≡ length w
+pub length-kept : (s : Sizes) (ends w : List ℕ) (x : Step) → length (keptTaken s ends w x) ≡ length w
 length-kept s ends w x = length-moved s ends (x .board) (x .rule) (heard (s .level) (sized s) w x) ∙ length-heard (s .level) (sized s) w x
 
-pub length-left : (s : Sizes) (e l w : List ℕ) (x : Step) → length (keptLeft s e l w x) ≡ length w
-unfolding _if_else_
-length-left s e l w x = go (eqb (keptFault s e l w x) 0)
-  where
-    go : (b : Bool) → length (keptStepped s e w x if b else w) ≡ length w
-    go true = length-kept s e w x
-    go false = refl
-
-pub stepped-kept : (d : Design) (s : Sizes) (e : List ℕ) → KeptEnds d s e → (w : List ℕ) (x : Step) → x .rule < s .rules → stepped (s .level) d w x ≡ keptStepped s e w x
-unfolding stepped
-stepped-kept d s e K w x h =
-    ap (λ (D : Design). stepped (s .level) D w x) (numbered-is d s (K .numbers))
+pub taken-kept : (d : Design) (s : Sizes) (e : List ℕ) → KeptEnds d s e → (w : List ℕ) (x : Step) → x .rule < s .rules → taken (s .level) d w x ≡ keptTaken s e w x
+unfolding taken
+taken-kept d s e K w x h =
+    ap (λ (D : Design). taken (s .level) D w x) (numbered-is d s (K .numbers))
     ∙ ap (λ (v : List ℕ). tell (s .correct) (s .types) (wide (s .level)) (newly d (d .from (x .rule)) (d .to (x .rule))) (bump (s .level) (columnIn s .own (x .board))) (s .types) (set v (x .board) (d .to (x .rule)))) (heard-sized s d w x)
     ∙ sent-once s (x .board) (keptSends e (x .rule)) _ (set (heard (s .level) (sized s) w x) (x .board) (d .to (x .rule))) (K .sends (x .rule) h) (K .one-new (x .rule) h)
     ∙ ap (λ (ℓ : ℕ). sentOnce s (x .board) (keptSends e (x .rule)) (set (heard (s .level) (sized s) w x) (x .board) ℓ)) (sym (K .to (x .rule) h))
 
 -- ---- how far words grow
 module _ (s : Sizes) (w : List ℕ) (x : Step) (k : ℕ) (H : Holds s k w) where
-  under-heard : (s .level ≡ 0 → ⊥) → (b : Bool) → silent x ≡ b → Under (k + 1) (heard (s .level) (sized s) w x)
+  under-heard : (s .level ≡ 0 → ⊥) → (b : Bool) → silent x ≡ b → Under (stoppedAt (s .correct) (s .types) (wide (s .level))) (k + 1) (heard (s .level) (sized s) w x)
   unfolding hear cell
-  under-heard n true e = subst⁻¹ (Under (k + 1)) (heard-silent (s .level) (sized s) w x e) (under-more k (k + 1) w (omega arith) (H .small n))
-  under-heard n false e = subst⁻¹ (Under (k + 1)) (heard-message (s .level) (sized s) w x e) (under-bump (s .level) n w _ (x .source) k (H .small n))
+  under-heard n true e = subst⁻¹ (Under (stoppedAt (s .correct) (s .types) (wide (s .level))) (k + 1)) (heard-silent (s .level) (sized s) w x e) (under-more _ k (k + 1) w (omega arith) (H .small n))
+  under-heard n false e = subst⁻¹ (Under (stoppedAt (s .correct) (s .types) (wide (s .level))) (k + 1)) (heard-message (s .level) (sized s) w x e) (under-bump _ (s .level) n w _ (x .source) k (H .small n))
 
   pub holds-heard : Holds s (k + 1) (heard (s .level) (sized s) w x)
   holds-heard = record { fits = length-heard (s .level) (sized s) w x ∙ H .fits; small = λ n. under-heard n (silent x) refl }
@@ -167,36 +163,61 @@ unfolding sentOnce _if_else_ sent
 holds-sent s p m k v H = go (decLt m (s .types))
   where
     go : Dec (m < s .types) → Holds s (k + 1) (sentOnce s p m v)
-    go (yes h) = rw (lt-ltb m (s .types) h) (record { fits = length-set v _ _ ∙ H .fits; small = λ n. under-bump (s .level) n v _ (columnIn s .own p) k (H .small n) })
+    go (yes h) = rw (lt-ltb m (s .types) h) (record { fits = length-set v _ _ ∙ H .fits; small = λ n. under-bump _ (s .level) n v _ (columnIn s .own p) k (H .small n) })
     go (no h) = rw (le-ltb m (s .types) (omega arith)) (holds-more s k (k + 1) v (omega arith) H)
 
-pub grown-stepped : (s : Sizes) (e w : List ℕ) (x : Step) → keptTo e (x .rule) < 256 → Grown s w (keptStepped s e w x)
-grown-stepped s e w x b k h H =
+pub grown-taken : (s : Sizes) (e w : List ℕ) (x : Step) → keptTo e (x .rule) < 256 → Grown s w (keptTaken s e w x)
+grown-taken s e w x b k h H =
     holds-more s (k + 1 + 1) (k + 2) _ (omega arith)
     (holds-sent s (x .board) _ (k + 1) _ (holds-put s (k + 1) _ (x .board) (keptTo e (x .rule)) (holds-heard s w x k H) (omega arith)))
 
-pub grown-left : (s : Sizes) (e l w : List ℕ) (x : Step) → keptTo e (x .rule) < 256 → Grown s w (keptLeft s e l w x)
-unfolding _if_else_
-grown-left s e l w x b k h H = go (eqb (keptFault s e l w x) 0)
+-- ---- with stops
+pub fault-kept : (d : Design) (s : Sizes) (e l : List ℕ) → Kept d s e l → (w : List ℕ) (x : Step) → stepFault (s .level) d w x ≡ keptFault s e l w x
+unfolding stepFault stopFault
+fault-kept d s e l K w x =
+    ap (λ (D : Design). stepFault (s .level) D w x) same-numbers
+    ∙ ap (λ (y : ℕ). 20 if x .board atLeast s .correct else 26 if mem (stoppedOf s w) (x .board) else stopFault (s .level) (keptDesign s e l) w x if isStop x else y)
+    (sym (ap (λ (D : Design). takeFault (s .level) D w x) same-numbers) ∙ take-fault-kept d s e l K w x)
   where
-    go : (t : Bool) → Holds s (k + 2) (keptStepped s e w x if t else w)
-    go true = grown-stepped s e w x b k h H
-    go false = holds-more s k (k + 2) w (omega arith) H
+    same-numbers : d ≡ numbered s d
+    same-numbers = numbered-is d s (K .ends .numbers)
+
+-- what holds of a stop and of a rule's words holds of a step's
+by-stop : (P : List ℕ → Type 0) (s : Sizes) (e w : List ℕ) (x : Step) → P (stop (s .correct) (s .types) (wide (s .level)) (x .board) w) → P (keptTaken s e w x) → P (keptStepped s e w x)
+by-stop P s e w x a b = if-keeps P _ (isStop x) _ (λ z. a) (λ z. b)
+
+pub stepped-kept : (d : Design) (s : Sizes) (e : List ℕ) → KeptEnds d s e → (w : List ℕ) (x : Step) → (isStop x ≡ false → x .rule < s .rules) → stepped (s .level) d w x ≡ keptStepped s e w x
+unfolding stepped _if_else_
+stepped-kept d s e K w x h = go (isStop x) h
+  where
+    go : (b : Bool) → (b ≡ false → x .rule < s .rules) → (stop (d .boards) (d .types) (wide (s .level)) (x .board) w if b else taken (s .level) d w x) ≡ (stop (s .correct) (s .types) (wide (s .level)) (x .board) w if b else keptTaken s e w x)
+    go true l = ap₂ (λ (C T : ℕ). stop C T (wide (s .level)) (x .board) w) (K .numbers .boards) (K .numbers .types)
+    go false l = taken-kept d s e K w x (l refl)
+
+length-stepped : (s : Sizes) (e w : List ℕ) (x : Step) → length (keptStepped s e w x) ≡ length w
+unfolding stop
+length-stepped s e w x = by-stop (λ (v : List ℕ). length v ≡ length w) s e w x (length-set w _ _) (length-kept s e w x)
 
 -- ---- what a step leaves
+pub length-left : (s : Sizes) (e l w : List ℕ) (x : Step) → length (keptLeft s e l w x) ≡ length w
+length-left s e l w x = if-keeps (λ (v : List ℕ). length v ≡ length w) _ (eqb (keptFault s e l w x) 0) _ (λ z. length-stepped s e w x) (λ z. refl)
+
+pub grown-left : (s : Sizes) (e l w : List ℕ) (x : Step) → keptTo e (x .rule) < 256 → Grown s w (keptLeft s e l w x)
+grown-left s e l w x b k h H =
+    let wider = holds-more s k (k + 2) w (omega arith) H in
+    if-keeps (Holds s (k + 2)) _ (eqb (keptFault s e l w x) 0) _ (λ z. by-stop (Holds s (k + 2)) s e w x (holds-stop s (k + 2) w (x .board) wider) (grown-taken s e w x b k h H)) (λ z. wider)
+
+-- the rule of a step that is accepted and no stop
+pub rule-of : (s : Sizes) (e l w : List ℕ) (x : Step) → keptFault s e l w x ≡ 0 → isStop x ≡ false → x .rule < s .rules
+rule-of s e l w x z n = accepted (s .level) (keptDesign s e l) w x (ruled (s .level) (keptDesign s e l) w x n z .1) .arrives .rule
+
 pub left-kept : (d : Design) (s : Sizes) (e l : List ℕ) → Kept d s e l → (w : List ℕ) (x : Step) → leftBy (s .level) d w x ≡ keptLeft s e l w x
 unfolding _if_else_
-left-kept d s e l K w x = go (decLt (x .rule) (s .rules))
+left-kept d s e l K w x = go (ℕ-discrete (keptFault s e l w x) 0)
   where
     f : stepFault (s .level) d w x ≡ keptFault s e l w x
     f = fault-kept d s e l K w x
 
-    go : Dec (x .rule < s .rules) → leftBy (s .level) d w x ≡ keptLeft s e l w x
-    go (yes h) = ap₂ (λ (y : ℕ) (u : List ℕ). u if eqb y 0 else w) f (stepped-kept d s e (K .ends) w x h)
-    go (no h) = ap (λ (y : ℕ). stepped (s .level) d w x if eqb y 0 else w) f ∙ refused (keptFault s e l w x) (λ z. omega (arith, h, rule-of z))
-      where
-        rule-of : keptFault s e l w x ≡ 0 → x .rule < s .rules
-        rule-of z = accepted (s .level) (keptDesign s e l) w x z .arrives .rule
-
-        refused : (y : ℕ) → (y ≡ 0 → ⊥) → (stepped (s .level) d w x if eqb y 0 else w) ≡ (keptStepped s e w x if eqb y 0 else w)
-        refused y n = rw (ne-eqb y 0 n)
+    go : Dec (keptFault s e l w x ≡ 0) → leftBy (s .level) d w x ≡ keptLeft s e l w x
+    go (yes z) = ap₂ (λ (y : ℕ) (u : List ℕ). u if eqb y 0 else w) f (stepped-kept d s e (K .ends) w x (rule-of s e l w x z))
+    go (no n) = rw (f, ne-eqb (keptFault s e l w x) 0 n)

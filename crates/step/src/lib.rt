@@ -5,17 +5,21 @@ ghost use Prim.Native.Nat.{_+_, _≤_, _<_};
 ghost use lib.Dec.{eqb};
 ghost use lib.ListN.{length};
 ghost use Rattle.senders.specs.Tally.{digit};
-ghost use Rattle.fault.specs.Tests.{_atLeast_, _differs_};
+ghost use Rattle.senders.specs.Set.{correctCount};
+ghost use Rattle.fault.specs.Tests.{_atLeast_, _atMost_, _differs_};
 ghost use Rattle.paper.specs.Paper as paper;
 ghost use Rattle.paper.specs.Words.{state};
 ghost use Rattle.paper.specs.Step.{stepFault};
 ghost use Rattle.schedule.specs.Records.{meant};
-ghost use Rattle.words.specs.Words.{columnIn};
+ghost use Rattle.words.specs.Words.{roomOf, columnIn, stoppedOf};
 ghost use Rattle.words.specs.Facts.{atRest, inStep, Bounded, Holds, Grown};
 ghost use Rattle.rules.specs.Kept.{keptRoom, keptFrom, ByDesign};
-ghost use Rattle.step.specs.Step.{leftBy, metWith, movedBy, keptFault, keptLeft, Leaves};
+ghost use Rattle.step.specs.Step.{leftBy, metWith, movedBy, takenFault, takenLeft, keptFault, keptLeft, Awake, Leaves};
 use schedule::Step;
 use words::Sizes;
+
+// The rule of a step that stops its board.
+pub const STOP: usize = 254;
 
 // The step if it is accepted, and 0; or its refusal, and no change: for every design that the kept rules stand for.
 pub fn step(s: Sizes, ends: &[u8], leasts: &[u16], w: &mut [u64], x: Step) -> usize
@@ -37,23 +41,76 @@ fn kept_step(s: Sizes, ends: &[u8], leasts: &[u16], w: &mut [u64], x: Step) -> u
     if at_least(x.board, s.correct) {
         return 20;
     }
+    if words::is_stopped(s, w, x.board) {
+        return 26;
+    }
+    if schedule::silent(x) {
+        return silent_step(s, ends, leasts, w, x);
+    }
+    message_step(s, ends, leasts, w, x)
+}
+
+// The rest of a step without a message, of a board that is not stopped. No table has the rule of a stop.
+fn silent_step(s: Sizes, ends: &[u8], leasts: &[u16], w: &mut [u64], x: Step) -> usize
+    requires { ⌜ (Bounded s) × (length (now ends) ≡ keptRoom) × (length (now leasts) ≡ keptRoom) × (Holds s atRest (now w)) × (Awake s (now w) (meant x)) × (paper.silent (meant x) ≡ true) ⌝ }
+    ensures { λ r. ⌜ r ≡ keptFault s (now (ends .entry)) (now (leasts .entry)) (now (w .entry)) (meant x) ⌝ }
+    ensures { λ r. ⌜ now (w .exit) ≡ keptLeft s (now (ends .entry)) (now (leasts .entry)) (now (w .entry)) (meant x) ⌝ }
+{
     if at_least(x.rule, s.rules) {
-        return 21;
+        return past_rules(s, ends, leasts, w, x);
     }
     if other_state(ends, w, x.board, x.rule) {
         return 22;
     }
-    if schedule::silent(x) {
-        return without_message(s, ends, leasts, w, x);
+    without_message(s, ends, leasts, w, x)
+}
+
+// The rest of a step with one.
+fn message_step(s: Sizes, ends: &[u8], leasts: &[u16], w: &mut [u64], x: Step) -> usize
+    requires { ⌜ (Bounded s) × (length (now ends) ≡ keptRoom) × (length (now leasts) ≡ keptRoom) × (Holds s atRest (now w)) × (Awake s (now w) (meant x)) × (paper.silent (meant x) ≡ false) ⌝ }
+    ensures { λ r. ⌜ r ≡ keptFault s (now (ends .entry)) (now (leasts .entry)) (now (w .entry)) (meant x) ⌝ }
+    ensures { λ r. ⌜ now (w .exit) ≡ keptLeft s (now (ends .entry)) (now (leasts .entry)) (now (w .entry)) (meant x) ⌝ }
+{
+    if at_least(x.rule, s.rules) {
+        return if x.rule == STOP { 23 } else { 21 };
+    }
+    if other_state(ends, w, x.board, x.rule) {
+        return 22;
     }
     with_message(s, ends, leasts, w, x)
 }
 
+// ---- stops
+// A rule that no table has, without a message: a stop, or 21.
+fn past_rules(s: Sizes, ends: &[u8], leasts: &[u16], w: &mut [u64], x: Step) -> usize
+    requires { ⌜ (Bounded s) × (length (now ends) ≡ keptRoom) × (length (now leasts) ≡ keptRoom) × (Holds s atRest (now w)) × (Awake s (now w) (meant x)) × (paper.silent (meant x) ≡ true) × (s .rules ≤ x .rule) ⌝ }
+    ensures { λ r. ⌜ r ≡ keptFault s (now (ends .entry)) (now (leasts .entry)) (now (w .entry)) (meant x) ⌝ }
+    ensures { λ r. ⌜ now (w .exit) ≡ keptLeft s (now (ends .entry)) (now (leasts .entry)) (now (w .entry)) (meant x) ⌝ }
+{
+    if x.rule != STOP {
+        return 21;
+    }
+    if may_stop(s, w) {
+        words::stop(s, w, x.board);
+        return 0;
+    }
+    27
+}
+
+// May one board more be stopped?
+fn may_stop(s: Sizes, w: &[u64]) -> bool
+    requires { ⌜ (Bounded s) × (length (now w) ≡ roomOf s) ⌝ }
+    ensures { λ b. ⌜ b ≡ ((correctCount (s .correct) (stoppedOf s (now (w .entry))) + 1 + s .faulty) atMost s .tolerated) ⌝ }
+{
+    words::stopped_count(s, w) + 1 + s.faulty as u64 <= s.tolerated as u64
+}
+
+// ---- by a rule that leaves the board's state
 // The rest of a step without a message.
 fn without_message(s: Sizes, ends: &[u8], leasts: &[u16], w: &mut [u64], x: Step) -> usize
     requires { ⌜ (Bounded s) × (length (now ends) ≡ keptRoom) × (length (now leasts) ≡ keptRoom) × (Holds s atRest (now w)) × (Leaves s (now ends) (now w) (meant x)) × (paper.silent (meant x) ≡ true) ⌝ }
-    ensures { λ r. ⌜ r ≡ keptFault s (now (ends .entry)) (now (leasts .entry)) (now (w .entry)) (meant x) ⌝ }
-    ensures { λ r. ⌜ now (w .exit) ≡ keptLeft s (now (ends .entry)) (now (leasts .entry)) (now (w .entry)) (meant x) ⌝ }
+    ensures { λ r. ⌜ r ≡ takenFault s (now (ends .entry)) (now (leasts .entry)) (now (w .entry)) (meant x) ⌝ }
+    ensures { λ r. ⌜ now (w .exit) ≡ takenLeft s (now (ends .entry)) (now (leasts .entry)) (now (w .entry)) (meant x) ⌝ }
 {
     if not_met(s, leasts, w, x.board, x.rule, x.mtype) {
         return 25;
@@ -65,8 +122,8 @@ fn without_message(s: Sizes, ends: &[u8], leasts: &[u16], w: &mut [u64], x: Step
 // The rest of a step with one: it is received before the move.
 fn with_message(s: Sizes, ends: &[u8], leasts: &[u16], w: &mut [u64], x: Step) -> usize
     requires { ⌜ (Bounded s) × (length (now ends) ≡ keptRoom) × (length (now leasts) ≡ keptRoom) × (Holds s atRest (now w)) × (Leaves s (now ends) (now w) (meant x)) × (paper.silent (meant x) ≡ false) ⌝ }
-    ensures { λ r. ⌜ r ≡ keptFault s (now (ends .entry)) (now (leasts .entry)) (now (w .entry)) (meant x) ⌝ }
-    ensures { λ r. ⌜ now (w .exit) ≡ keptLeft s (now (ends .entry)) (now (leasts .entry)) (now (w .entry)) (meant x) ⌝ }
+    ensures { λ r. ⌜ r ≡ takenFault s (now (ends .entry)) (now (leasts .entry)) (now (w .entry)) (meant x) ⌝ }
+    ensures { λ r. ⌜ now (w .exit) ≡ takenLeft s (now (ends .entry)) (now (leasts .entry)) (now (w .entry)) (meant x) ⌝ }
 {
     if malformed(s, x) {
         return 23;
@@ -96,6 +153,14 @@ pub fn other_state(ends: &[u8], w: &[u64], p: usize, r: usize) -> bool
     ensures { λ b. ⌜ b ≡ (state (now (w .entry)) p differs keptFrom (now (ends .entry)) r) ⌝ }
 {
     w[p] != rules::from(ends, r) as u64
+}
+
+// The same of a number that may be no state.
+pub fn other_than(ends: &[u8], state: u64, r: usize) -> bool
+    requires { ⌜ (length (now ends) ≡ keptRoom) × (r < 64) ⌝ }
+    ensures { λ b. ⌜ (b ≡ (state differs keptFrom (now (ends .entry)) r)) × (keptFrom (now (ends .entry)) r < 256) ⌝ }
+{
+    state != rules::from(ends, r) as u64
 }
 
 // 23, of a step with a message

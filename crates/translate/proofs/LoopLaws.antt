@@ -18,10 +18,8 @@ use Rattle.schedule.specs.Records.{recordAt, stepsIn, bytesOf}
 use Rattle.schedule.proofs.RecordLaws.{length-steps, Partly, partly-none, partly-at, partly-more, partly-all}
 use Rattle.words.specs.declared.Sizes.{Sizes}
 use Rattle.rules.specs.Kept.{ByEnds}
-use Rattle.step.specs.Step.{Formed}
-use Rattle.step.proofs.StepLaws.{formed-by}
-use Rattle.translate.specs.Facts.{lowIn, RunsLow, LowersTo}
-use Rattle.translate.proofs.StepLaws.{tag-keeps, low-keeps, low-sized}
+use Rattle.translate.specs.Facts.{lowIn, RunsLow, LowersTo, Acceptable}
+use Rattle.translate.proofs.StepLaws.{tag-keeps, low-keeps, low-sized, acceptable-by}
 
 map-at : (f : Step → Step) (ss : List Step) (i : ℕ) → i < length ss → stepAt (map f ss) i ≡ f (stepAt ss i)
 map-at f [] i h = absurd (not-suc-le-zero h)
@@ -139,11 +137,11 @@ module _ (s : Sizes) (ends w₀ : List ℕ) (n : ℕ) (steps₀ : List ℕ) (l :
   alongs-none L = along-none (s .level) (L .design) w₀ n steps₀ l
 
   module _ {i : ℕ} {w steps : List ℕ} (A : Here i w steps) (h : i < n) where
-    pub alongs-formed : RunsLow s ends w₀ steps₀ → Formed s (lowIn s w (recordAt steps i))
-    alongs-formed L =
+    pub alongs-acceptable : RunsLow s ends w₀ steps₀ → Acceptable s (lowIn s w (recordAt steps i))
+    alongs-acceptable L =
         let x = recordAt steps i in
-        subst (Formed s) (low-sized (L .design) s (L .kept .numbers) w x)
-        (formed-by (L .design) s (L .kept .numbers) w (lowest (s .level) (L .design) w x) (along-accepts (s .level) (L .design) w₀ n steps₀ l (L .runs) (A L) h))
+        subst (Acceptable s) (low-sized (L .design) s (L .kept .numbers) w x)
+        (acceptable-by (L .design) s (L .kept .numbers) w (lowest (s .level) (L .design) w x) (along-accepts (s .level) (L .design) w₀ n steps₀ l (L .runs) (A L) h))
 
     pub alongs-more : {v u : List ℕ} → ByEnds s ends (λ d. v ≡ stepped (s .level) d w (lowIn s w (recordAt steps i))) → u ≡ set steps (i * 4 + 3) (lowIn s w (recordAt steps i) .source) → Here (i + 1) v u
     alongs-more f g L =

@@ -78,7 +78,7 @@ module _ (k : ℕ) (s : Sizes) where
   pub level-kept : {d : Design} {ends : List ℕ} → KeptEnds d s ends → KeptEnds d (atLevel k s) ends
   level-kept K = record {
     long = K .long;
-    numbers = record { boards = K .numbers .boards; faulty = K .numbers .faulty; types = K .numbers .types; rules = K .numbers .rules };
+    numbers = record { boards = K .numbers .boards; faulty = K .numbers .faulty; tolerated = K .numbers .tolerated; types = K .numbers .types; rules = K .numbers .rules };
     from = K .from;
     to = K .to;
     sends = K .sends;

@@ -1,6 +1,6 @@
 -- A step at the neighbouring level, told by the numbers that the code has in hand.
-use mathlib.Core.Path.{_≡_, refl, sym, ap, ap₂, _∙_, subst}
-use mathlib.Core.Bool.{Bool, true, false, not, _&&_, and-false}
+use mathlib.Core.Path.{_≡_, refl, sym, ap, ap₂, _∙_, subst, subst⁻¹}
+use mathlib.Core.Bool.{Bool, true, false, not, _&&_, and-false, true≢false}
 use mathlib.Core.List.{List}
 use Prim.Native.Nat.{ℕ, zero, suc, _+_, _*_, _≤_, _<_}
 use native.Mathlib.Omega.{arith}
@@ -13,23 +13,26 @@ use Rattle.senders.specs.Tally.{least}
 use Rattle.senders.specs.Set.{mem, missing}
 use Rattle.senders.proofs.TallyLaws.{and-both, least-same, least-le, least-found}
 use Rattle.fault.specs.Fault.{_if_else_}
-use Rattle.paper.specs.Paper.{Design, Step, passing, silent, column}
-use Rattle.paper.specs.Words.{cellAt, sentAt, cell, sent, hear}
+use Rattle.paper.specs.Paper.{Design, Step, passing, silent, column, isStop}
+use Rattle.paper.specs.Words.{cellAt, sentAt, cell, sent, hear, stop}
 use Rattle.paper.specs.Form.{wide, slot, bump, coll, shown}
-use Rattle.paper.specs.Step.{heard, malformed}
-use Rattle.paper.proofs.StepLaws.{kind-if, named-of, heard-silent, heard-message}
+use Rattle.paper.specs.Step.{heard, malformed, stepFault, stepped}
+use Rattle.paper.proofs.Cases.{yes-no}
+use Rattle.paper.proofs.StepLaws.{kind-if, named-of, heard-silent, heard-message, Accepts, takes, stops, accepts-by, stepped-take}
 use Rattle.agree.specs.Translation.{sourceIn, tagOf, withSource, tagBy, lowSender, lowest}
 use Rattle.agree.proofs.Columns.{tag-correct, tag-faulty, tag-only, transit-correct, transit-faulty, picture-laws}
 use Rattle.agree.proofs.Agree.{typed, lowest-silent, lowest-message}
 use Rattle.schedule.specs.Records.{recordAt}
 use Rattle.words.specs.declared.Sizes.{Sizes}
 use Rattle.words.specs.Words.{columnIn, transitIn}
-use Rattle.words.specs.Facts.{Bounded, At, Sourced}
+use Rattle.words.specs.Facts.{Bounded, At, Sourced, Grown}
+use Rattle.words.proofs.KeepLaws.{holds-more, holds-stop}
 use Rattle.words.proofs.LevelCases.{counts}
-use Rattle.rules.specs.Kept.{Numbers}
-use Rattle.step.specs.Step.{sized, movedBy, keptStepped, Formed}
-use Rattle.step.proofs.KeptLaws.{numbered-is}
-use Rattle.translate.specs.Facts.{lowIn}
+use Rattle.rules.specs.Kept.{Numbers, ByEnds}
+use Rattle.step.specs.Step.{sized, movedBy, keptTaken, Formed}
+use Rattle.step.proofs.KeptLaws.{numbered-is, taken-kept, stepped-kept}
+use Rattle.step.proofs.StepLaws.{formed-by}
+use Rattle.translate.specs.Facts.{lowIn, Acceptable}
 
 -- ---- only the source changes
 module _ (j : ℕ) where
@@ -119,20 +122,33 @@ sender-low {i} {j} {r} s w p m tag e f g h =
     (h ∙ ap₂ (λ (x y : ℕ). least (C + s .faulty) (test C (s .faulty) (getD w x 0) (getD w y 0) tag)) (f ∙ ap (λ (k : ℕ). cellAt C T (wide k) p m 0) e) (g ∙ ap (λ (k : ℕ). sentAt C T (wide k) m) e))
     ∙ sym (low-zero s w p m tag e)
 
--- ---- what a formed step tells of the tag: a type of the table, and a source of the next level
+-- ---- no source is 255
 pub sources-few : (k C f : ℕ) → C + f ≤ 64 → column k C f .sources ≤ 64
 sources-few zero C f h = h
 sources-few (suc zero) C f h = omega arith
 sources-few (suc (suc k)) C f h = omega arith
 
+-- so a step from its lowest sender has a message, whatever its type
+low-told : (s : Sizes) (w : List ℕ) (x : Step) → Bounded s → silent (withSource x (lowSender (s .level) (sized s) w x)) ≡ false
+unfolding lowSender
+low-told s w x B =
+    let n = columnIn s .sources in
+    let P : ℕ → Bool = λ q. eqb (tagOf (s .level) (s .correct) q) (x .source) && transitIn s w (x .board) (x .type) q in
+    let z : eqb (least n P) 255 ≡ false = ne-eqb (least n P) 255 (omega (arith, least-le n P, sources-few (s .level) (s .correct) (s .faulty) (B .boards))) in
+    ap (λ (b : Bool). eqb (x .type) 255 && b) z ∙ and-false (eqb (x .type) 255)
+
+-- and a step that has none with its lowest source has none itself
+low-quiet : (s : Sizes) (w : List ℕ) (x : Step) → Bounded s → silent (lowIn s w x) ≡ true → silent x ≡ true
+low-quiet s w x B h = yes-no (silent x) (λ e. e) (λ e. absurd (true≢false (sym h ∙ ap silent (lowest-message (s .level) (sized s) x w e) ∙ low-told s w x B)))
+
+-- ---- what a formed step tells of the tag: a type of the table, and a source of the next level
 pub source-what : (s : Sizes) (w : List ℕ) (x : Step) → Bounded s → Formed s (lowIn s w x) → silent x ≡ false → (At s (x .board) (x .type)) × (x .source < column (suc (s .level)) (s .correct) (s .faulty) .sources)
 unfolding lowSender lowest
 source-what s w x B F e =
     let n = columnIn s .sources in
     let P : ℕ → Bool = λ q. eqb (tagOf (s .level) (s .correct) q) (x .source) && transitIn s w (x .board) (x .type) q in
-    let z : eqb (least n P) 255 ≡ false = ne-eqb (least n P) 255 (omega (arith, least-le n P, sources-few (s .level) (s .correct) (s .faulty) (B .boards))) in
     let o = lowest-message (s .level) (sized s) x w e in
-    let N = named-of (s .level) (sized s) w (withSource x (lowSender (s .level) (sized s) w x)) (ap (malformed (s .level) (sized s)) (sym o) ∙ F .named) (ap (λ (b : Bool). eqb (x .type) 255 && b) z ∙ and-false (eqb (x .type) 255)) in
+    let N = named-of (s .level) (sized s) w (withSource x (lowSender (s .level) (sized s) w x)) (ap (malformed (s .level) (sized s)) (sym o) ∙ F .named) (low-told s w x B) in
     let t : tagOf (s .level) (s .correct) (least n P) ≡ x .source = eqb-true _ _ (and-both _ _ (least-found n P (N .source)) .0) in
     (record { board = F .board; type = N .type }, omega (arith, t, picture-laws (s .correct) (s .faulty) (s .level) .below (least n P)))
 
@@ -174,8 +190,58 @@ lowered s w x = withSource x (lowIn s w x .source)
 pub lowered-is : {y : Step} (s : Sizes) (w : List ℕ) (x : Step) → y ≡ x → lowered s w y ≡ lowIn s w x
 lowered-is {y} s w x e = low-keeps (s .level) (sized s) w y ∙ ap (lowIn s w) e
 
-pub lowered-moves : {v u : List ℕ} (s : Sizes) (ends w : List ℕ) (x : Step) → v ≡ heard (s .level) (sized s) w (lowIn s w x) → u ≡ movedBy s ends (x .board) (x .rule) v → u ≡ keptStepped s ends w (lowered s w x)
+pub lowered-moves : {v u : List ℕ} (s : Sizes) (ends w : List ℕ) (x : Step) → v ≡ heard (s .level) (sized s) w (lowIn s w x) → u ≡ movedBy s ends (x .board) (x .rule) v → u ≡ keptTaken s ends w (lowered s w x)
 lowered-moves s ends w x e f = f ∙ ap (movedBy s ends (x .board) (x .rule)) (e ∙ ap (heard (s .level) (sized s) w) (sym (lowered-is s w x refl)))
+
+-- what is known of it: a board that there is, and by a rule it is formed
+module _ {y : Step} (s : Sizes) (w : List ℕ) (x : Step) (A : Acceptable s (lowIn s w x)) (e : y ≡ x) where
+  lowered-acceptable : Acceptable s (lowered s w y)
+  lowered-acceptable = subst⁻¹ (Acceptable s) (lowered-is s w x e) A
+
+  pub lowered-board : y .board < s .correct
+  lowered-board = lowered-acceptable .board
+
+  pub lowered-formed : (y .rule ≡ 254 → ⊥) → Formed s (lowered s w y)
+  lowered-formed n = lowered-acceptable .formed (ne-eqb (y .rule) 254 n)
+
+-- by a rule of the table, for every design that the kept ends stand for
+pub lowered-steps : {u : List ℕ} {y : Step} (s : Sizes) (ends w : List ℕ) (x : Step) → y ≡ x → (y .rule ≡ 254 → ⊥) → y .rule < s .rules → u ≡ keptTaken s ends w (lowered s w y)
+    → ByEnds s ends (λ d. u ≡ stepped (s .level) d w (lowIn s w x))
+lowered-steps {u} {y} s ends w x e n h g d K =
+    g ∙ sym (taken-kept d s ends K w (lowered s w y) h) ∙ sym (stepped-take (s .level) d w (lowered s w y) (ne-eqb (y .rule) 254 n)) ∙ ap (stepped (s .level) d w) (lowered-is s w x e)
+
+-- a stop has no message: its record stays, and the board is stopped
+module _ {y : Step} (s : Sizes) (w steps : List ℕ) (i : ℕ) (B : Bounded s) (A : Acceptable s (lowIn s w (recordAt steps i))) (e : y ≡ recordAt steps i) (h : y .rule ≡ 254) where
+  stops-now : isStop y ≡ true
+  stops-now = eq-eqb (y .rule) 254 h
+
+  stop-quiet : silent (recordAt steps i) ≡ true
+  unfolding lowest
+  stop-quiet = low-quiet s w (recordAt steps i) B (A .alone (ap isStop (sym e) ∙ stops-now))
+
+  stop-is : lowIn s w (recordAt steps i) ≡ y
+  stop-is = lowest-silent (s .level) (sized s) (recordAt steps i) w stop-quiet ∙ sym e
+
+  pub stop-unnamed : steps ≡ set steps (i * 4 + 3) (lowIn s w (recordAt steps i) .source)
+  stop-unnamed = low-unnamed s w (recordAt steps i) stop-quiet steps i refl
+
+  module _ {v : List ℕ} (f : v ≡ stop (s .correct) (s .types) (wide (s .level)) (y .board) w) where
+    pub stop-steps : (ends : List ℕ) → ByEnds s ends (λ d. v ≡ stepped (s .level) d w (lowIn s w (recordAt steps i)))
+    unfolding _if_else_
+    stop-steps ends d K =
+        let n : isStop y ≡ false → y .rule < s .rules = λ z. absurd (true≢false (sym stops-now ∙ z)) in
+        f ∙ sym (stepped-kept d s ends K w y n ∙ rw stops-now) ∙ ap (stepped (s .level) d w) (sym stop-is)
+
+    pub stop-grown : Grown s w v
+    stop-grown k l H = rw f (holds-stop s (k + 2) w (y .board) (holds-more s k (k + 2) w (omega arith) H))
+
+-- ---- what an accepted step tells, of a design with these numbers
+pub acceptable-by : (d : Design) (s : Sizes) → Numbers d s → (w : List ℕ) (x : Step) → stepFault (s .level) d w x ≡ 0 → Acceptable s x
+acceptable-by d s N w x z = go (accepts-by (s .level) d w x z)
+  where
+    go : Accepts (s .level) d w x → Acceptable s x
+    go (takes n _ f) = let F = formed-by d s N w x f in record { board = F .board; formed = λ _. F; alone = λ e. absurd (true≢false (sym e ∙ n)) }
+    go (stops e b _ a _) = record { board = rw (← N .boards) b; formed = λ n. absurd (true≢false (sym e ∙ n)); alone = λ _. a }
 
 -- a design's numbers are all that the lowest source asks
 pub low-sized : (d : Design) (s : Sizes) → Numbers d s → (w : List ℕ) (x : Step) → lowest (s .level) d w x ≡ lowIn s w x

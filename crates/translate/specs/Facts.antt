@@ -1,6 +1,6 @@
 -- What the functions below the entry speak of and may count on.
 use mathlib.Core.Path.{_≡_}
-use mathlib.Core.Bool.{false}
+use mathlib.Core.Bool.{true, false}
 use mathlib.Core.List.{List}
 use Prim.Native.Nat.{ℕ, _-_, _*_, _<_}
 use lib.Dec.{eqb}
@@ -8,7 +8,7 @@ use lib.ListN.{length, getD}
 use Rattle.fault.specs.declared.Answer.{Answer}
 use Rattle.fault.specs.Fault.{_if_else_}
 use Rattle.bundle.specs.Bundle.{startsOf}
-use Rattle.paper.specs.Paper.{Design, Step}
+use Rattle.paper.specs.Paper.{Design, Step, silent, isStop}
 use Rattle.paper.specs.Form.{wide}
 use Rattle.paper.specs.Run.{Ran, run}
 use Rattle.agree.specs.Picture.{Remembers}
@@ -16,14 +16,14 @@ use Rattle.agree.specs.Translation.{lowest, lowAll, finer}
 use Rattle.schedule.specs.Records.{stepsIn, bytesOf}
 use Rattle.words.specs.declared.Sizes.{Sizes}
 use Rattle.rules.specs.Kept.{KeptEnds, Kept}
-use Rattle.step.specs.Step.{sized}
+use Rattle.step.specs.Step.{sized, Formed}
 use Rattle.engine.specs.Entry.{scheduleOf, startIn}
 use Rattle.translate.specs.Entry.{wrote}
 use Rattle.translate.specs.Written.{rewritten, beginOf, movedBy}
 
 -- the same numbers at level k
 abbrev pub atLevel : ℕ → Sizes → Sizes
-atLevel k s = record { level = k; correct = s .correct; faulty = s .faulty; types = s .types; rules = s .rules; wide = wide k; row = s .types * wide k }
+atLevel k s = record { level = k; correct = s .correct; faulty = s .faulty; types = s .types; rules = s .rules; wide = wide k; row = s .types * wide k; tolerated = s .tolerated }
 
 -- the step with the lowest source of its tag that is in transit; a design's numbers are all that is asked
 abbrev pub lowIn : Sizes → List ℕ → Step → Step
@@ -74,3 +74,9 @@ pub record RunsLow (s : Sizes) (ends w steps : List ℕ) : Type 0 where
 
 abbrev pub LowersTo : Sizes → List ℕ → List ℕ → List ℕ → List ℕ → Type 0
 LowersTo s ends w steps out = (L : RunsLow s ends w steps) → out ≡ bytesOf (lowAll (s .level) (L .design) w (stepsIn steps))
+
+-- ---- what is known of a step that is accepted: a board that there is; by a rule it is formed, and a stop has no message
+pub record Acceptable (s : Sizes) (x : Step) : Type 0 where
+  pub board : x .board < s .correct
+  pub formed : isStop x ≡ false → Formed s x
+  pub alone : isStop x ≡ true → silent x ≡ true

@@ -18,7 +18,7 @@ ghost use Rattle.rules.specs.Kept.{keptRoom, ByEnds, ByDesign};
 ghost use Rattle.step.specs.Step.{sized, Formed};
 ghost use Rattle.engine.specs.Entry.{startIn, ranAnswer};
 ghost use Rattle.engine.specs.Open.{Parts};
-ghost use Rattle.translate.specs.Facts.{atLevel, lowIn, ranBy, Fair, Runs, MovesTo, RefinesTo, WritesTo, Answers, RunsLow, LowersTo};
+ghost use Rattle.translate.specs.Facts.{atLevel, lowIn, ranBy, Fair, Runs, MovesTo, RefinesTo, WritesTo, Answers, RunsLow, LowersTo, Acceptable};
 ghost use Rattle.translate.specs.Entry.{translateToAnswer, translateToBytes, usual, translateAnswer, translateBytes};
 use fault::Answer;
 use schedule::Step;
@@ -241,6 +241,7 @@ fn at_level(s: Sizes, k: usize) -> Sizes
         rules: s.rules,
         wide,
         row: s.types * wide,
+        tolerated: s.tolerated,
     }
 }
 
@@ -276,14 +277,18 @@ fn write_along(s: Sizes, ends: &[u8], w: &mut [u64], steps: &mut [u8])
     }
 }
 
-// The tag of record i becomes its source, and the step is taken.
+// The tag of record i becomes its source, and the step is taken. A stop has no message, so that its record stays.
 fn source_at(s: Sizes, ends: &[u8], w: &mut [u64], steps: &mut [u8], i: usize)
-    requires { ⌜ (Bounded s) × (length (now ends) ≡ keptRoom) × (Holds s atRest (now w)) × (i < mostSteps) × (i * 4 + 3 < length (now steps)) × (Formed s (lowIn s (now w) (recordAt (now steps) i))) ⌝ }
+    requires { ⌜ (Bounded s) × (length (now ends) ≡ keptRoom) × (Holds s atRest (now w)) × (i < mostSteps) × (i * 4 + 3 < length (now steps)) × (Acceptable s (lowIn s (now w) (recordAt (now steps) i))) ⌝ }
     ensures { λ r. ⌜ ByEnds s (now (ends .entry)) (λ d. now (w .exit) ≡ stepped (s .level) d (now (w .entry)) (lowIn s (now (w .entry)) (recordAt (now (steps .entry)) i))) ⌝ }
     ensures { λ r. ⌜ Grown s (now (w .entry)) (now (w .exit)) ⌝ }
     ensures { λ r. ⌜ now (steps .exit) ≡ set (now (steps .entry)) (i * 4 + 3) (lowIn s (now (w .entry)) (recordAt (now (steps .entry)) i) .source) ⌝ }
 {
     let x = schedule::step_at(steps, i);
+    if x.rule == step::STOP {
+        words::stop(s, w, x.board);
+        return;
+    }
     hear_lowest(s, w, steps, i, x);
     step::move_on(s, ends, w, x.board, x.rule);
 }

@@ -6,11 +6,11 @@ use native.Mathlib.Nat.{mul-le-mul, mul-assoc, add-mul}
 use native.Mathlib.Omega.{arith}
 use lib.Arith.{digits-lt}
 use lib.ListN.{getD}
-use Rattle.paper.specs.Words.{size, cellAt, sentAt, cell, sent}
+use Rattle.paper.specs.Words.{size, cellAt, sentAt, stoppedAt, cell, sent, stopped}
 use Rattle.paper.specs.Form.{wide, slot, two, coll}
 use Rattle.paper.proofs.FormLaws.{wide-some}
 use Rattle.words.specs.declared.Sizes.{Sizes}
-use Rattle.words.specs.Words.{roomOf}
+use Rattle.words.specs.Words.{roomOf, stoppedOf}
 use Rattle.words.specs.Facts.{Bounded, At}
 
 -- a cell by its row
@@ -37,7 +37,7 @@ module _ (s : Sizes) (B : Bounded s) where
     pub cell-few : m * s .wide ≤ 6
     cell-few = mul-le-mul {n₂ = 3} {m₂ = 2} (omega (arith, A .type, B .types)) wide-few
 
-    pub cell-in-room : cellAt (s .correct) (s .types) (wide (s .level)) p m 0 + wide (s .level) ≤ roomOf s
+    pub cell-in-room : cellAt (s .correct) (s .types) (wide (s .level)) p m 0 + wide (s .level) < roomOf s
     unfolding cellAt size
     cell-in-room =
         let k = wide (s .level) in
@@ -48,7 +48,7 @@ module _ (s : Sizes) (B : Bounded s) where
     unfolding cellAt
     cell-is = rw (B .row, B .wide) (omega (arith, spread p (s .types) m (wide (s .level))))
 
-    pub cell-inside : s .correct + p * s .row + m * s .wide + wide (s .level) ≤ roomOf s
+    pub cell-inside : s .correct + p * s .row + m * s .wide + wide (s .level) < roomOf s
     cell-inside = rw cell-is cell-in-room
 
 -- the words of a cell stand one after the other
@@ -56,13 +56,29 @@ pub cell-next : (C T k p m e : ℕ) → cellAt C T k p m 0 + e ≡ cellAt C T k 
 unfolding cellAt
 cell-next C T k p m e = omega arith
 
-pub room-is : (s : Sizes) → sentAt (s .correct) (s .types) (wide (s .level)) 0 + s .types ≡ roomOf s
-unfolding sentAt size
-room-is s = omega arith
+-- the stopped boards stand after the sent words, and last
+pub stopped-is : (s : Sizes) → sentAt (s .correct) (s .types) (wide (s .level)) (s .types) ≡ stoppedAt (s .correct) (s .types) (wide (s .level))
+unfolding sentAt stoppedAt
+stopped-is s = refl
+
+pub stopped-last : (s : Sizes) → stoppedAt (s .correct) (s .types) (wide (s .level)) + 1 ≡ roomOf s
+unfolding stoppedAt size
+stopped-last s = refl
 
 pub sent-in-room : (s : Sizes) (m : ℕ) → m < s .types → sentAt (s .correct) (s .types) (wide (s .level)) m < roomOf s
 unfolding sentAt size
 sent-in-room s m h = omega arith
+
+-- the words of a cell, and the sent words, lie before them
+pub cell-before : (s : Sizes) (i j : ℕ) → i + wide (s .level) < roomOf s → j < i + wide (s .level) → j < stoppedAt (s .correct) (s .types) (wide (s .level))
+cell-before s i j h l = omega (arith, stopped-last s)
+
+pub first-before : (s : Sizes) (i : ℕ) → i + wide (s .level) < roomOf s → i < stoppedAt (s .correct) (s .types) (wide (s .level))
+first-before s i h = cell-before s i i h (omega (arith, wide-some (s .level) .0))
+
+pub sent-before : (s : Sizes) {i : ℕ} (m : ℕ) → i ≡ sentAt (s .correct) (s .types) (wide (s .level)) m → m < s .types → i < stoppedAt (s .correct) (s .types) (wide (s .level))
+unfolding sentAt stoppedAt
+sent-before s m e h = rw e (omega arith)
 
 -- what a cell shows, from its first word and the word of source 1
 pub coll-two : (k C f : ℕ) (g : ℕ → ℕ) → coll k C f (two (g 0) (g (slot k 1))) ≡ coll k C f g
@@ -77,6 +93,10 @@ unfolding cell
 coll-words k C f T p m w {i} {j} e h =
     let z : j ≡ cellAt C T (wide k) p m (slot k 1) = h ∙ ap (λ (x : ℕ). x + slot k 1) e ∙ cell-next C T (wide k) p m (slot k 1) in
     rw (e, z) (coll-two k C f (cell C T (wide k) w p m))
+
+pub stopped-word : (s : Sizes) (w : List ℕ) {i : ℕ} → i ≡ stoppedAt (s .correct) (s .types) (wide (s .level)) → getD w i 0 ≡ stoppedOf s w
+unfolding stopped
+stopped-word s w e = rw e
 
 pub sent-word : (C T k m : ℕ) (w : List ℕ) {i : ℕ} → i ≡ sentAt C T k m → getD w i 0 ≡ sent C T k w m
 unfolding sent

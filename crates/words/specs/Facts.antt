@@ -3,6 +3,7 @@ use mathlib.Core.Path.{_≡_}
 use mathlib.Core.List.{List}
 use Prim.Native.Nat.{ℕ, _+_, _*_, _≤_, _<_}
 use lib.ListN.{length, getD}
+use Rattle.paper.specs.Words.{stoppedAt}
 use Rattle.paper.specs.Form.{wide}
 use Rattle.words.specs.declared.Sizes.{Sizes}
 use Rattle.words.specs.Words.{columnIn, roomOf}
@@ -26,14 +27,14 @@ atRest = 900000
 abbrev pub inStep : ℕ
 inStep = 1000000
 
--- the most words that a configuration has: 64 states, 64 · 4 cells of two words, 4 sent
+-- the most words that a configuration has: 64 states, 64 · 4 cells of two words, 4 sent, the stopped boards
 abbrev pub mostWords : ℕ
-mostWords = 580
+mostWords = 581
 
--- the words are as many as a configuration has, and in the levels that count none is over k
+-- the words are as many as a configuration has, and in the levels that count none is over k but the last, which is a set in every level
 pub record Holds (s : Sizes) (k : ℕ) (w : List ℕ) : Type 0 where
   pub fits : length w ≡ roomOf s
-  pub small : (s .level ≡ 0 → ⊥) → (i : ℕ) → getD w i 0 ≤ k
+  pub small : (s .level ≡ 0 → ⊥) → (i : ℕ) → i < stoppedAt (s .correct) (s .types) (wide (s .level)) → getD w i 0 ≤ k
 
 -- a board and a type that there are
 pub record At (s : Sizes) (p m : ℕ) : Type 0 where

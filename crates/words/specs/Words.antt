@@ -2,9 +2,10 @@
 use mathlib.Core.Bool.{Bool}
 use mathlib.Core.List.{List}
 use Prim.Native.Nat.{ℕ, zero, suc}
-use Rattle.senders.specs.Set.{correctCount, faultyCount}
+use Rattle.senders.specs.Set.{mem, correctCount, faultyCount}
+use Rattle.fault.specs.Fault.{_if_else_}
 use Rattle.paper.specs.Paper.{Interp, column}
-use Rattle.paper.specs.Words.{size, cell, sent}
+use Rattle.paper.specs.Words.{size, state, cell, sent, stopped}
 use Rattle.paper.specs.Form.{wide, coll, shown}
 use Rattle.words.specs.declared.Sizes.{Sizes}
 
@@ -16,6 +17,17 @@ gotIn s w p m = coll (s .level) (s .correct) (s .faulty) (cell (s .correct) (s .
 
 abbrev pub outIn : (s : Sizes) → List ℕ → ℕ → columnIn s .Coll
 outIn s w m = shown (s .level) (s .correct) (s .faulty) (sent (s .correct) (s .types) (wide (s .level)) w m)
+
+-- the boards that are stopped
+abbrev pub stoppedOf : Sizes → List ℕ → ℕ
+stoppedOf s w = stopped (s .correct) (s .types) (wide (s .level)) w
+
+-- the state of board p, where a stopped board has one that no rule leaves: rules have bytes
+abbrev pub noState : ℕ
+noState = 256
+
+abbrev pub awakeState : Sizes → List ℕ → ℕ → ℕ
+awakeState s w p = noState if mem (stoppedOf s w) p else state w p
 
 -- how many messages of type m board p has received
 abbrev pub countIn : Sizes → List ℕ → ℕ → ℕ → ℕ

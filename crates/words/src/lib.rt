@@ -3,10 +3,11 @@ ghost use mathlib.Core.Path.{_≡_};
 ghost use Prim.Native.Nat.{_+_, _≤_, _<_};
 ghost use lib.ListN.{length, set};
 ghost use Rattle.senders.specs.Tally.{least};
-ghost use Rattle.paper.specs.Words.{cellAt, sentAt};
+ghost use Rattle.senders.specs.Set.{mem, correctCount};
+ghost use Rattle.paper.specs.Words.{cellAt, sentAt, stoppedAt};
 ghost use Rattle.paper.specs.Words as words;
 ghost use Rattle.paper.specs.Form as forms;
-ghost use Rattle.words.specs.Words.{roomOf, columnIn, countIn, correctIn, faultyIn, sentCountIn, transitIn};
+ghost use Rattle.words.specs.Words.{roomOf, columnIn, stoppedOf, awakeState, countIn, correctIn, faultyIn, sentCountIn, transitIn};
 ghost use Rattle.words.specs.Facts.{inStep, mostWords, Bounded, Holds, At, Sourced};
 
 pub mod level; // what the words of a cell come to, by the level's number
@@ -22,17 +23,27 @@ pub struct Sizes {
     // words of a cell, and of all cells of a board
     pub wide: usize,
     pub row: usize,
+    // how many boards may be faulty or stopped
+    pub tolerated: usize,
 }
 
-// The most words that a configuration has: 64 states, 64 · 4 cells of two words, 4 sent.
-pub const MOST: usize = 580;
+// The most words that a configuration has: 64 states, 64 · 4 cells of two words, 4 sent, the stopped boards.
+pub const MOST: usize = 581;
 
 // How many words a configuration has.
 pub fn room(s: Sizes) -> usize
     requires { ⌜ Bounded s ⌝ }
     ensures { λ r. ⌜ (r ≡ roomOf s) × (r ≤ mostWords) ⌝ }
 {
-    sent_at(s, 0) + s.types
+    stopped_at(s) + 1
+}
+
+// Where the set of stopped boards stands, after the sent words.
+pub fn stopped_at(s: Sizes) -> usize
+    requires { ⌜ Bounded s ⌝ }
+    ensures { λ r. ⌜ (r ≡ stoppedAt (s .correct) (s .types) (forms.wide (s .level))) × (r + 1 ≡ roomOf s) × (r ≤ 580) ⌝ }
+{
+    sent_at(s, s.types)
 }
 
 // Where the sent word of type m stands.
@@ -46,7 +57,7 @@ pub fn sent_at(s: Sizes, m: usize) -> usize
 // Where the cell of board p for type m begins.
 pub fn cell_at(s: Sizes, p: usize, m: usize) -> usize
     requires { ⌜ (Bounded s) × (At s p m) ⌝ }
-    ensures { λ r. ⌜ (r ≡ cellAt (s .correct) (s .types) (forms.wide (s .level)) p m 0) × (r + forms.wide (s .level) ≤ roomOf s) × (r ≤ 576) ⌝ }
+    ensures { λ r. ⌜ (r ≡ cellAt (s .correct) (s .types) (forms.wide (s .level)) p m 0) × (r + forms.wide (s .level) < roomOf s) × (r ≤ 576) ⌝ }
 {
     s.correct + p * s.row + m * s.wide
 }
@@ -115,6 +126,51 @@ pub fn in_transit(s: Sizes, w: &[u64], p: usize, m: usize, q: usize) -> bool
     let j = last_of(s, i);
     let k = sent_at(s, m);
     level::in_transit(s.level, s.wide, s.correct, s.faulty, q, w[i], w[j], w[k])
+}
+
+// The set of stopped boards.
+pub fn stopped_in(s: Sizes, w: &[u64]) -> u64
+    requires { ⌜ (Bounded s) × (length (now w) ≡ roomOf s) ⌝ }
+    ensures { λ r. ⌜ r ≡ stoppedOf s (now (w .entry)) ⌝ }
+{
+    let i = stopped_at(s);
+    w[i]
+}
+
+// Is board p stopped?
+pub fn is_stopped(s: Sizes, w: &[u64], p: usize) -> bool
+    requires { ⌜ (Bounded s) × (p < s .correct) × (length (now w) ≡ roomOf s) ⌝ }
+    ensures { λ r. ⌜ r ≡ mem (stoppedOf s (now (w .entry))) p ⌝ }
+{
+    senders::has(stopped_in(s, w), p as u64)
+}
+
+// The state of board p; of a stopped one a number that is no state, so that no rule leaves it.
+pub fn awake_state(s: Sizes, w: &[u64], p: usize) -> u64
+    requires { ⌜ (Bounded s) × (p < s .correct) × (length (now w) ≡ roomOf s) ⌝ }
+    ensures { λ r. ⌜ r ≡ awakeState s (now (w .entry)) p ⌝ }
+{
+    if is_stopped(s, w, p) {
+        return 256;
+    }
+    state_in(s, w, p)
+}
+
+// How many boards are stopped.
+pub fn stopped_count(s: Sizes, w: &[u64]) -> u64
+    requires { ⌜ (Bounded s) × (length (now w) ≡ roomOf s) ⌝ }
+    ensures { λ r. ⌜ (r ≡ correctCount (s .correct) (stoppedOf s (now (w .entry)))) × (r ≤ 64) ⌝ }
+{
+    senders::correct_count(stopped_in(s, w), s.correct as u64)
+}
+
+// Board p stops.
+pub fn stop(s: Sizes, w: &mut [u64], p: usize)
+    requires { ⌜ (Bounded s) × (p < s .correct) × (length (now w) ≡ roomOf s) ⌝ }
+    ensures { λ r. ⌜ now (w .exit) ≡ words.stop (s .correct) (s .types) (forms.wide (s .level)) p (now (w .entry)) ⌝ }
+{
+    let i = stopped_at(s);
+    w[i] = senders::with(w[i], p as u64);
 }
 
 // Board p enters a state; the word is written only where that changes it.

@@ -5,7 +5,7 @@ mod search;
 
 use crate::bench::Bench;
 use macaroosh::calls::{Answer, First, Step};
-use macaroosh::{Form, Refusal, MOST_WORDS};
+use macaroosh::{Form, Refusal, MOST_WORDS, STOP};
 use std::slice::ChunksExact;
 
 // The forms as parameters of code that is made for each.
@@ -203,6 +203,7 @@ struct Schedule<'a> {
     rules: &'a [Rule],
     types: usize,
     n: usize,
+    t: usize,
     f: usize,
     form: Form,
     starts: &'a [u8],
@@ -229,7 +230,7 @@ impl<'a> Schedule<'a> {
             return Err(refused(14, p));
         }
         let rules = &rules[..table.rules];
-        Ok(Schedule { rules, types: table.types, n: n.into(), f: f.into(), form, starts, steps })
+        Ok(Schedule { rules, types: table.types, n: n.into(), t: t.into(), f: f.into(), form, starts, steps })
     }
 
     // How many words a board has for what it received.
@@ -239,7 +240,7 @@ impl<'a> Schedule<'a> {
 
     // How many words the configuration has.
     fn room(&self) -> usize {
-        self.starts.len() * (1 + self.types * self.form.wide()) + self.types
+        self.starts.len() * (1 + self.types * self.form.wide()) + self.types + 1
     }
 
     // The senders below c.
@@ -261,7 +262,7 @@ impl<'a> Schedule<'a> {
         }
     }
 
-    // The configuration after all steps, or after those before the first refused one; 20 to 25.
+    // The configuration after all steps, or after those before the first refused one; 20 to 27.
     fn run(&self, words: &mut [u64]) -> Result<(), Refusal> {
         let (states, rest) = words.split_at_mut(self.starts.len());
         for (state, &start) in states.iter_mut().zip(self.starts) {
@@ -276,11 +277,12 @@ impl<'a> Schedule<'a> {
     }
 
     fn take_all<const FORM: u8>(&self, states: &mut [u64], rest: &mut [u64]) -> Result<(), Refusal> {
-        let (cells, sent) = rest.split_at_mut(states.len() * self.row::<FORM>());
-        let faulty = self.faulty();
+        let (cells, rest) = rest.split_at_mut(states.len() * self.row::<FORM>());
+        let (sent, last) = rest.split_at_mut(self.types);
+        let (faulty, stopped) = (self.faulty(), &mut last[0]);
         for (i, record) in self.steps.chunks_exact(4).enumerate() {
             let record = [record[0], record[1], record[2], record[3]];
-            if let Err(number) = self.take::<FORM>(states, cells, sent, faulty, record) {
+            if let Err(number) = self.take::<FORM>(states, cells, sent, stopped, faulty, record) {
                 return Err(refused(number, i));
             }
         }
@@ -294,12 +296,22 @@ impl<'a> Schedule<'a> {
         states: &mut [u64],
         cells: &mut [u64],
         sent: &mut [u64],
+        stopped: &mut u64,
         faulty: u64,
         record: [u8; 4],
     ) -> Result<(), u8> {
         let [p, r, m, q] = record.map(usize::from);
         let state = states.get_mut(p).ok_or(20)?;
-        let rule = self.rules.get(r).ok_or(21)?;
+        if *stopped >> (p % 64) & 1 == 1 {
+            return Err(26);
+        }
+        let rule = match self.rules.get(r) {
+            Some(rule) => rule,
+            None => {
+                *stopped = self.with_stop(*stopped, record)?;
+                return Ok(());
+            }
+        };
         if *state != u64::from(rule.from) {
             return Err(22);
         }
@@ -336,6 +348,26 @@ impl<'a> Schedule<'a> {
             *sent = if FORM == MESSAGE { *sent | 1 << p } else { *sent + 1 };
         }
         Ok(())
+    }
+
+    // The set after a step of a board that is not stopped, by a rule that the table has not: a stop, or 21.
+    #[cold]
+    fn with_stop(&self, stopped: u64, [p, r, m, q]: [u8; 4]) -> Result<u64, u8> {
+        if r != STOP {
+            return Err(21);
+        }
+        if m & q != 255 {
+            return Err(23);
+        }
+        if stopped.count_ones() as usize + 1 + self.f > self.t {
+            return Err(27);
+        }
+        Ok(stopped | 1 << p)
+    }
+
+    // The type that a rule sends; 8 for none, as for a stop.
+    fn sent_by(&self, r: u8) -> usize {
+        self.rules.get(usize::from(r)).map_or(8, |rule| rule.sends.into())
     }
 
     // The bundle in another form, where it runs and there is room.
@@ -382,7 +414,7 @@ impl<'a> Schedule<'a> {
                 record[3] = u8::from(got[p][m] == sent[m]);
                 got[p][m] += 1 - record[3];
             }
-            if let Some(sent) = sent.get_mut(usize::from(self.rules[usize::from(record[1])].sends)) {
+            if let Some(sent) = sent.get_mut(self.sent_by(record[1])) {
                 *sent += 1;
             }
         }
@@ -412,19 +444,23 @@ impl<'a> Schedule<'a> {
                 got[p][m] |= 1u64.wrapping_shl(q);
                 record[3] = q as u8;
             }
-            if let Some(sent) = sent.get_mut(usize::from(self.rules[usize::from(record[1])].sends)) {
+            if let Some(sent) = sent.get_mut(self.sent_by(record[1])) {
                 *sent |= 1 << p;
             }
         }
     }
 
-    // The first possible step. Where a board lacks nothing for a rule, that is the rule without a message if it leads to
-    // another state, and with the first message in transit if not; if there is none, the other rules that stay in that
-    // state are passed over. Where something lacks, it is a single message of a single type, and in transit.
+    // The first possible step, of a board that is not stopped. Where it lacks nothing for a rule, that is the rule without a
+    // message if it leads to another state, and with the first message in transit if not; if there is none, the other rules that
+    // stay in that state are passed over. Where something lacks, it is a single message of a single type, and in transit.
     fn first<const FORM: u8>(&self, words: &[u64]) -> Option<Step> {
         let (states, rest) = words.split_at(self.starts.len());
-        let (cells, sent) = rest.split_at(states.len() * self.row::<FORM>());
+        let (cells, rest) = rest.split_at(states.len() * self.row::<FORM>());
+        let (sent, last) = rest.split_at(self.types);
         for ((p, &state), row) in states.iter().enumerate().zip(cells.chunks_exact(self.row::<FORM>())) {
+            if last[0] >> p & 1 == 1 {
+                continue;
+            }
             let mut counts = [0i16; 4];
             for (m, count) in counts.iter_mut().enumerate().take(self.types) {
                 *count = total::<FORM>(row, m);

@@ -161,7 +161,7 @@ impl Messages {
     }
 }
 
-/// States, received messages by board and type, sent messages by type.
+/// States, received messages by board and type, sent messages by type, stopped boards.
 #[derive(Clone, Debug, PartialEq, Eq)]
 pub struct Configuration {
     /// A state for each correct board.
@@ -170,10 +170,12 @@ pub struct Configuration {
     pub received: Vec<Vec<Messages>>,
     /// By type.
     pub sent: Vec<Messages>,
+    /// The boards that take no further step.
+    pub stopped: BTreeSet<usize>,
 }
 
 impl Configuration {
-    /// Its words, in the order of the outline: states, received by board and type, sent.
+    /// Its words, in the order of the outline: states, received by board and type, sent; then the stopped boards.
     pub fn words(&self) -> Vec<u64> {
         let mut words: Vec<u64> = self.states.iter().map(|&s| s as u64).collect();
         for received in self.received.iter().flatten() {
@@ -189,11 +191,12 @@ impl Configuration {
                 Messages::Counts(count, _) | Messages::Count(count) => *count as u64,
             });
         }
+        words.push(bits(&self.stopped));
         words
     }
 }
 
-// Bit q for sender q.
+// Bit q for sender or board q.
 fn bits(set: &BTreeSet<usize>) -> u64 {
     set.iter().map(|q| 1 << q).sum()
 }
@@ -213,7 +216,7 @@ impl Bundle {
         }
     }
 
-    /// Nothing received and nothing sent.
+    /// Nothing received, nothing sent and nobody stopped.
     pub fn start(&self) -> Configuration {
         let nothing = match self.form {
             Form::Message => Messages::Set(BTreeSet::new()),
@@ -224,7 +227,13 @@ impl Bundle {
             states: self.starts.clone(),
             received: vec![vec![nothing.clone(); self.table.types]; self.correct()],
             sent: vec![nothing; self.table.types],
+            stopped: BTreeSet::new(),
         }
+    }
+
+    /// The rule that a step takes, if the table has it; it has none for a stop.
+    pub fn rule(&self, step: Step) -> Option<&Rule> {
+        self.table.rules.get(usize::from(step.rule))
     }
 
     /// The type that a rule sends, if it sends a new one.
@@ -235,17 +244,22 @@ impl Bundle {
 
     /// Whether a step is a wait: it has no message, and its rule has from = to.
     pub fn waits(&self, step: Step) -> bool {
-        let rule = &self.table.rules[usize::from(step.rule)];
-        step.silent() && rule.from == rule.to
+        step.silent() && self.rule(step).map_or(false, |rule| rule.from == rule.to)
     }
 
-    /// Points 2 and 4 of "One step": what an accepted step changes.
+    /// What an accepted step changes: the set of stopped boards alone, where it is a stop; else points 2 and 4 of "One step".
     pub fn apply(&self, configuration: &mut Configuration, step: Step) {
         let p = usize::from(step.board);
+        let rule = match self.rule(step) {
+            Some(rule) => rule,
+            None => {
+                configuration.stopped.insert(p);
+                return;
+            }
+        };
         if !step.silent() {
             configuration.received[p][usize::from(step.kind)].add(usize::from(step.source));
         }
-        let rule = &self.table.rules[usize::from(step.rule)];
         configuration.states[p] = rule.to;
         if let Some(m) = self.sends(rule) {
             configuration.sent[m].add(if self.form == Form::Message { p } else { 0 });
@@ -389,13 +403,42 @@ pub trait Outline {
         before + usize::from(receives)
     }
 
-    /// Whether a step is accepted, or the number of its refusal.
+    /// Whether a step is accepted, or the number of its refusal: 20, then 26, then those of a stop or of a rule.
     fn check(&self, bundle: &Bundle, before: &Configuration, step: Step) -> Result<(), u8> {
         let p = usize::from(step.board);
         if p >= bundle.correct() {
             return Err(20);
         }
-        let rule = bundle.table.rules.get(usize::from(step.rule)).ok_or(21)?;
+        if before.stopped.contains(&p) {
+            return Err(26);
+        }
+        if step.rule == 254 {
+            self.check_stop(bundle, before, step)
+        } else {
+            self.check_move(bundle, before, step)
+        }
+    }
+
+    /// The refusals of a stop: 23 where a message is present, then 27.
+    fn check_stop(&self, bundle: &Bundle, before: &Configuration, step: Step) -> Result<(), u8> {
+        if !step.silent() {
+            return Err(23);
+        }
+        if !self.may_stop(bundle, before) {
+            return Err(27);
+        }
+        Ok(())
+    }
+
+    /// Whether one more board may stop: those and f do not exceed t.
+    fn may_stop(&self, bundle: &Bundle, before: &Configuration) -> bool {
+        before.stopped.len() + 1 + bundle.f <= bundle.t
+    }
+
+    /// The refusals of a step by a rule: 21, 22, 23, 24, 25.
+    fn check_move(&self, bundle: &Bundle, before: &Configuration, step: Step) -> Result<(), u8> {
+        let p = usize::from(step.board);
+        let rule = bundle.rule(step).ok_or(21)?;
         if before.states[p] != rule.from {
             return Err(22);
         }
@@ -422,9 +465,14 @@ pub trait Outline {
             if let Err(number) = self.check(bundle, &configuration, step) {
                 return (configuration, Some(refused(number, i)));
             }
-            bundle.apply(&mut configuration, step);
+            self.apply(bundle, &mut configuration, step);
         }
         (configuration, None)
+    }
+
+    /// What an accepted step changes.
+    fn apply(&self, bundle: &Bundle, configuration: &mut Configuration, step: Step) {
+        bundle.apply(configuration, step);
     }
 
     /// An accepted step of a form in the form next to it, where the steps before it have reached this configuration there.
@@ -608,5 +656,5 @@ pub fn report(bytes: &[u8]) -> String {
     for messages in &left.sent {
         lines += &format!(" {}", messages.total());
     }
-    lines + "\n"
+    lines + &format!("\nstopped {}\n", bits(&left.stopped))
 }

@@ -1,6 +1,7 @@
 //! What the questions answer, whoever is asked: the outline's "Numbers given back".
 
 use crate::terms::refusals::Refusal;
+use crate::terms::rules::STOP;
 
 /// What every call answers but the first-step question.
 #[derive(Clone, Copy, Debug, PartialEq, Eq)]
@@ -44,7 +45,7 @@ pub type First = Result<Option<Step>, Refusal>;
 pub struct Step {
     /// Which board moves.
     pub board: u8,
-    /// By which rule.
+    /// By which rule; 254 stops the board.
     pub rule: u8,
     /// The type of the message that it receives; 255 with source 255 for none.
     pub kind: u8,
@@ -64,6 +65,18 @@ impl Step {
     #[inline]
     pub fn record(self) -> [u8; 4] {
         [self.board, self.rule, self.kind, self.source]
+    }
+
+    /// The step that stops a board.
+    #[inline]
+    pub fn stop(board: u8) -> Step {
+        Step { board, rule: STOP, kind: 255, source: 255 }
+    }
+
+    /// Whether it stops its board, where it is accepted.
+    #[inline]
+    pub fn stops(self) -> bool {
+        self.rule == STOP
     }
 
     /// Whether it receives nothing.

@@ -26,8 +26,8 @@ pub fn translate_to(bundle: &[u8], standing: &[u8], form: u64, out: &mut [u8]) -
     unpacked(ffi::translate_to(bundle, standing, form, out))
 }
 
-/// The first possible step after the whole schedule, or none where no step but waits is accepted. A wait has no message, and
-/// its rule has from = to.
+/// The first possible step after the whole schedule, or none where no step but waits and stops is accepted. A wait has no message,
+/// and its rule has from = to.
 #[inline]
 pub fn first_step(bundle: &[u8], standing: &[u8]) -> First {
     let packed = ffi::first_step(bundle, standing);
@@ -58,9 +58,9 @@ pub fn replay(bundle: &[u8], standing: &[u8], log: &[u8], out: &mut [u8], words:
 }
 
 /// Searches for the first schedule of at most `depth` steps more, after the schedule of a bundle in counting form, that puts a board
-/// in an accepting state, and writes its steps' records; 4 bytes for each step of the depth are enough. The count of the answer is
-/// its length, or `NONE`, or `SPENT` where one more try was due after as many as the budget; `tried` is set to the number tried,
-/// which is 0 with any refusal.
+/// in an accepting state, and writes its steps' records, of which none is a stop; 4 bytes for each step of the depth are enough. The
+/// count of the answer is its length, or `NONE`, or `SPENT` where one more try was due after as many as the budget; `tried` is set to
+/// the number tried, which is 0 with any refusal.
 #[inline]
 pub fn search(bundle: &[u8], standing: &[u8], depth: u64, budget: u64, out: &mut [u8], tried: &mut u64) -> Answer {
     unpacked(ffi::search(bundle, standing, depth, budget, out, tried))

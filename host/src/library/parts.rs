@@ -44,6 +44,8 @@ pub struct Picture {
     pub received: Vec<Vec<Vec<u32>>>,
     /// By type: how many boards have sent it.
     pub sent: Vec<u32>,
+    /// The set of stopped boards, bit p for board p.
+    pub stopped: u64,
 }
 
 impl Picture {
@@ -51,6 +53,16 @@ impl Picture {
     pub fn summed(&self) -> Picture {
         let sums = |board: &Vec<Vec<u32>>| board.iter().map(|counts| vec![counts.iter().sum()]).collect();
         Picture { received: self.received.iter().map(sums).collect(), ..self.clone() }
+    }
+
+    /// Whether a board is stopped.
+    pub fn is_stopped(&self, board: usize) -> bool {
+        board < 64 && self.stopped >> board & 1 == 1
+    }
+
+    /// The stopped boards, in order.
+    pub fn stopped_boards(&self) -> Vec<usize> {
+        (0..self.states.len()).filter(|&board| self.is_stopped(board)).collect()
     }
 }
 
@@ -78,7 +90,7 @@ impl<'a> Parts<'a> {
 
     /// How many words a run needs.
     pub fn words(&self) -> usize {
-        self.correct() + self.correct() * self.types * self.form.wide() + self.types
+        self.stopped() + 1
     }
 
     /// How many steps the schedule has.
@@ -169,7 +181,12 @@ impl<'a> Parts<'a> {
 
     /// Where a run's words have what was sent of a type: a set or a count.
     pub fn sent(&self, kind: usize) -> usize {
-        self.words() - self.types + kind
+        self.correct() + self.correct() * self.types * self.form.wide() + kind
+    }
+
+    /// Where a run's words have the set of stopped boards: last.
+    pub fn stopped(&self) -> usize {
+        self.sent(self.types)
     }
 
     /// What a run's words say; words past the lent ones count as 0.
@@ -196,6 +213,7 @@ impl<'a> Parts<'a> {
             states: (0..correct).map(word).collect(),
             received: (0..correct).map(|p| (0..types).map(|m| received(p, m)).collect()).collect(),
             sent: (0..types).map(sent).collect(),
+            stopped: word(self.stopped()),
         }
     }
 }

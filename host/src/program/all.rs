@@ -1,6 +1,6 @@
 //! Every possible step after a schedule, by the library alone: each one that is listed was run as one step more. What a refusal
-//! says of more than its own step spares a run: 22 of a rule with any message, 24 of a message with any rule, 25 of a type from
-//! any sender.
+//! says of more than its own step spares a run: 26 of a board, 22 of a rule with any message, 24 of a message with any rule, 25 of a
+//! type from any sender.
 
 use macaroosh::calls::{run, Step};
 use macaroosh::parts::Parts;
@@ -22,7 +22,7 @@ fn of_board(parts: &Parts, standing: &[u8], board: u8) -> Vec<Step> {
     let mut words = [0; MOST_WORDS];
     let mut refusal = |step: Step| run(&parts.with(&[step]), standing, &mut words).refusal;
     let silent = |rule: u8| Step { board, rule, kind: 255, source: 255 };
-    let rules: Vec<u8> = (0..parts.rules() as u8).filter(|&rule| refusal(silent(rule)) != 22).collect();
+    let rules: Vec<u8> = (0..parts.rules() as u8).filter(|&rule| ![22, 26].contains(&refusal(silent(rule)))).collect();
     let mut messages = messages(parts);
     if let Some(&rule) = rules.first() {
         messages.retain(|&(kind, source)| refusal(Step { board, rule, kind, source }) != 24);

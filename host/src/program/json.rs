@@ -83,6 +83,7 @@ pub fn run(question: &Question, answer: Answer, left: Option<(&Parts, &[u64])>) 
         fields.push(("states", list(&picture.states, |&state| Json::Number(state))));
         fields.push(("received", list(&picture.received, |types| received(types))));
         fields.push(("sent", sent(&picture)));
+        fields.push(("stopped", stopped(&picture)));
         if parts.form == Form::Message {
             fields.extend(senders(parts, words));
         }
@@ -167,6 +168,11 @@ fn sent(picture: &Picture) -> Json {
     list(&picture.sent, |&count| number(count))
 }
 
+// The boards that are stopped.
+fn stopped(picture: &Picture) -> Json {
+    list(&picture.stopped_boards(), |&board| Json::Number(board as u64))
+}
+
 // In message form: from whom each board has each type, and who has sent it.
 fn senders(parts: &Parts, words: &[u64]) -> Fields {
     let set = |word: u64| Json::List((0..64).filter(|q| word >> q & 1 == 1).map(Json::Number).collect());
@@ -188,7 +194,7 @@ fn numbered(number: usize, step: Step) -> Fields {
 
 fn step(parts: &Parts, made: &Move) -> Json {
     let board = usize::from(made.step.board);
-    let (from, to) = parts.ends(made.step.rule).unwrap_or((0, 0));
+    let (from, to) = made.ends(parts);
     let mut fields = numbered(made.number, made.step);
     fields.push(("translated", number(made.other.source)));
     fields.push(("from", number(from)));
@@ -196,6 +202,7 @@ fn step(parts: &Parts, made: &Move) -> Json {
     fields.push(("state", Json::Number(made.after.states[board])));
     fields.push(("received", received(&made.after.received[board])));
     fields.push(("sent", sent(&made.after)));
+    fields.push(("stopped", stopped(&made.after)));
     fields.push(("swaps_with_previous", Json::Truth(made.swaps)));
     Json::Object(fields)
 }

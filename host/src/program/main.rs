@@ -63,8 +63,8 @@ Macaroosh runs a schedule of steps against a threshold table.
 
 FILE is a bundle: a table, then a schedule. A bundle without a table is read
 beside the standing table. TABLE is a table alone, without a schedule. LOG has
-lines 'board 0 rule 3' and 'board 2 rule 3 type 0 from 0'. For each of the
-five '-' is standard input.
+lines 'board 0 rule 3' and 'board 2 rule 3 type 0 from 0'; by rule 254 a board
+loses power and stops. For each of the five '-' is standard input.
 
   --to FORM         the form to translate to: message, counting or plain
   --to EDITION      the edition to move a table to: first or second

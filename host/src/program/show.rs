@@ -25,7 +25,7 @@ pub fn result(answer: Answer) -> String {
 /// The report program's other lines.
 pub fn lines(picture: &Picture) -> String {
     let boards: String = (0..picture.states.len()).map(|p| board_line(picture, p)).collect();
-    boards + &sent_line(picture)
+    boards + &sent_line(picture) + &stopped_line(picture)
 }
 
 /// The report's line of one board.
@@ -38,6 +38,11 @@ pub fn board_line(picture: &Picture, p: usize) -> String {
 pub fn sent_line(picture: &Picture) -> String {
     let counts: String = picture.sent.iter().map(|count| format!(" {count}")).collect();
     format!("sent{counts}\n")
+}
+
+/// The report's line of the stopped boards.
+pub fn stopped_line(picture: &Picture) -> String {
+    format!("stopped {}\n", picture.stopped)
 }
 
 /// The first step for programs: `result R P`, then `step B R T S` or `none`.
@@ -152,7 +157,8 @@ pub fn configuration(parts: &Parts, picture: &Picture, steps: u32) -> String {
     head.extend((0..parts.types).map(|m| format!("has type {m}")));
     let mut rows = vec![head];
     for (p, &in_state) in picture.states.iter().enumerate() {
-        let mut row = vec![p.to_string(), state(parts, in_state)];
+        let stopped = if picture.is_stopped(p) { ", stopped" } else { "" };
+        let mut row = vec![p.to_string(), state(parts, in_state) + stopped];
         row.extend(picture.received[p].iter().map(|counts| sum(counts)));
         rows.push(row);
     }

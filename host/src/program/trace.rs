@@ -29,7 +29,7 @@ pub fn shown(question: &Question, answer: Answer, part: Part) -> Reply {
     question.reply(output, answer.refused())
 }
 
-/// An accepted step.
+/// An accepted step, which may be a stop.
 pub struct Move {
     /// Which step it is, from 0.
     pub number: usize,
@@ -42,6 +42,14 @@ pub struct Move {
     /// Whether it and the step before it can be exchanged: they are of different boards, and both are accepted from the configuration
     /// before them.
     pub swaps: bool,
+}
+
+impl Move {
+    /// The states before and after it, which are the same for a stop.
+    pub fn ends(&self, parts: &Parts) -> (u8, u8) {
+        let own = self.after.states[usize::from(self.step.board)] as u8;
+        parts.ends(self.step.rule).unwrap_or((own, own))
+    }
 }
 
 /// The accepted steps of a bundle, as far as they are asked for.
@@ -162,10 +170,14 @@ pub fn left(parts: &Parts) -> Vec<usize> {
 /// The row of a step.
 pub fn row(parts: &Parts, m: &Move) -> Vec<String> {
     let Step { board, rule, .. } = m.step;
-    let (from, to) = parts.ends(rule).unwrap_or((0, 0));
+    let (from, to) = m.ends(parts);
     let mut cells = vec![m.number.to_string(), board.to_string(), rule.to_string()];
-    cells.push(format!("{from:>4} -> {}", show::state(parts, u64::from(to))));
-    cells.push(show::message(parts, if parts.form == Form::Message { m.step } else { m.other }));
+    if m.step.stops() {
+        cells.extend([format!("{from:>4} loses power"), String::new()]);
+    } else {
+        cells.push(format!("{from:>4} -> {}", show::state(parts, u64::from(to))));
+        cells.push(show::message(parts, if parts.form == Form::Message { m.step } else { m.other }));
+    }
     if parts.form == Form::Counting {
         cells.push(match m.step.source {
             0 => "0 correct".to_string(),
@@ -190,11 +202,13 @@ pub fn start_line(parts: &Parts) -> String {
     format!("start{starts}\n")
 }
 
-/// For programs: a step's number, record and translated source, and the report's lines of its board and of what was sent.
+/// For programs: a step's number, record and translated source, and the report's lines of its board, of what was sent and of the
+/// stopped boards.
 pub fn lines_of(made: &Move) -> String {
     let Move { number, step, other, after, .. } = made;
     let step_line = format!("{} {}\n", step_line(*number, *step), other.source);
-    step_line + &show::board_line(after, usize::from(step.board)) + &show::sent_line(after)
+    let board = show::board_line(after, usize::from(step.board));
+    [step_line, board, show::sent_line(after), show::stopped_line(after)].concat()
 }
 
 /// The beginning of such a line: number and record.

@@ -18,7 +18,7 @@ pub fn of_bundle(bundle: &[u8], standing: &[u8], refusal: Refusal) -> Vec<String
     match refusal.number {
         1..=9 => of_table_in_use(bundle, standing, refusal),
         11..=14 => of_schedule(bundle, standing, refusal),
-        20..=25 => of_step(bundle, standing, refusal),
+        20..=27 => of_step(bundle, standing, refusal),
         35 => {
             let form = Form::of_bundle(bundle).map_or("another", Form::name);
             vec![format!("it is in {form} form; translate --to counting writes it in counting form")]
@@ -156,7 +156,8 @@ fn of_step(bundle: &[u8], standing: &[u8], refusal: Refusal) -> Vec<String> {
     match (parts, step) {
         (Some(parts), Some(step)) => {
             let Step { board, rule, .. } = step;
-            let record = format!("that step is board {board}, rule {rule}, {}", message_of(step));
+            let stop = if step.stops() { " (a stop)" } else { "" };
+            let record = format!("that step is board {board}, rule {rule}{stop}, {}", message_of(step));
             let before = Before { parts, words: &words, step, place: refusal.place as usize };
             [vec![record], before.figures(refusal.number)].concat()
         }
@@ -182,11 +183,18 @@ impl Before<'_> {
                 let (state, from) = (self.words[usize::from(board)], parts.ends(rule).map_or(0, |(from, _)| from));
                 vec![format!("board {board} is in state {state}, rule {rule} leaves state {from}")]
             }
+            23 if self.step.stops() => vec!["a stop has neither type nor source, which are both 255 then".to_string()],
             23 => {
                 let (types, sources) = (counted(parts.types, "type"), counted(parts.sources(), "source"));
                 vec![format!("the table has {types}, {} form has {sources}", parts.form.name())]
             }
             24 => vec![self.not_in_transit()],
+            26 => vec![self.stopped()],
+            27 => {
+                let (t, f) = (parts.t, parts.f);
+                let stopped = parts.picture(self.words).stopped_boards().len();
+                vec![format!("t = {t}, f = {f}, and {} stopped already", boards_are(stopped))]
+            }
             _ => self.unmet(),
         }
     }
@@ -240,12 +248,29 @@ impl Before<'_> {
         }
     }
 
+    // In which step its board has stopped.
+    fn stopped(&self) -> String {
+        let board = self.step.board;
+        let stops = |step: Step| step.board == board && step.stops();
+        let step = self.parts.steps().position(stops).unwrap_or(0);
+        format!("board {board} has lost power in step {step}")
+    }
+
     // The steps before it in which its board heard such a message.
     fn heard(&self) -> Vec<usize> {
         let Step { board, kind, source, .. } = self.step;
         let same = |step: &Step| (step.board, step.kind, step.source) == (board, kind, source);
         let before = self.parts.steps().take(self.place).enumerate();
         before.filter(|(_, step)| same(step)).map(|(i, _)| i).collect()
+    }
+}
+
+// How many boards: `no board is`, `1 board is`, `2 boards are`.
+fn boards_are(count: usize) -> String {
+    match count {
+        0 => "no board is".to_string(),
+        1 => "1 board is".to_string(),
+        _ => format!("{count} boards are"),
     }
 }
 

@@ -86,7 +86,7 @@ const fn line(number: u8, place: Place, when: &'static str) -> Line {
 }
 
 /// Every refusal, in the order of the checks.
-pub const ALL: [Line; 32] = [
+pub const ALL: [Line; 34] = [
     line(40, Place::None, "the input is over 17,648 bytes (report program only)"),
     line(10, Place::None, "the bundle is under 8 bytes"),
     line(11, Place::None, "the schedule's second distance plus 8 exceeds the bundle"),
@@ -126,9 +126,11 @@ pub const ALL: [Line; 32] = [
     line(30, Place::None, "the lent output is shorter than what is needed"),
     line(61, Place::None, "the lent output is shorter than the drawing or its table"),
     line(20, Place::Step, "the board is not below n - f"),
+    line(26, Place::Step, "the board is stopped"),
     line(21, Place::Step, "the rule is not in the table"),
     line(22, Place::Step, "the rule does not leave the board's state"),
-    line(23, Place::Step, "type or source is out of range, or only one of the two is 255"),
+    line(23, Place::Step, "type or source is out of range, only one of the two is 255, or a stop has a message"),
+    line(27, Place::Step, "no more boards may stop: f and the stopped ones may not exceed t"),
     line(24, Place::Step, "the message is not in transit"),
     line(25, Place::Step, "a threshold is not met"),
 ];

@@ -1,4 +1,7 @@
-//! How a table's rules lie in its bytes, and what they ask for.
+//! How a table's rules lie in its bytes, and what they ask for; and the rule that is in no table.
+
+/// The rule of a step that stops its board. A table has at most 64 rules, so that none has this number.
+pub const STOP: u8 = 254;
 
 /// The edition of a table's rules, which the types byte of its trailer tells: T in the first, and 16 higher in the second.
 #[derive(Clone, Copy, Debug, PartialEq, Eq)]

@@ -1,7 +1,7 @@
 //! The most of everything, for whoever lends memory.
 
-/// The most words that a configuration has: 64 states, 64 · 4 pairs of counts, 4 sent counts.
-pub const MOST_WORDS: usize = 64 + 64 * 4 * 2 + 4;
+/// The most words that a configuration has: 64 states, 64 · 4 pairs of counts, 4 sent counts, the set of stopped boards.
+pub const MOST_WORDS: usize = 64 + 64 * 4 * 2 + 4 + 1;
 
 /// The most bytes that a table part has: 16 states, 64 rules of 18 bytes in the second edition, a trailer.
 pub const MOST_TABLE: usize = 16 * 2 + 64 * 18 + 8;

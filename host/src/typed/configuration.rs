@@ -1,4 +1,4 @@
-//! A configuration: the states of the correct boards, what they have received, and what was sent.
+//! A configuration: the states of the correct boards, what they have received, what was sent, and which boards are stopped.
 
 use crate::library::parts::{Parts, Picture};
 use crate::terms::form::Form;
@@ -67,7 +67,14 @@ impl Configuration {
         self.picture.sent.get(usize::from(kind)).copied()
     }
 
-    /// Its words in the outline's order: states, received by board and type, sent. In message form those are sets of senders.
+    /// Whether a correct board is stopped, so that it takes no further step.
+    pub fn stopped(&self, board: u8) -> Option<bool> {
+        let board = usize::from(board);
+        (board < self.boards()).then(|| self.picture.is_stopped(board))
+    }
+
+    /// Its words in the outline's order: states, received by board and type, sent, the set of stopped boards. In message form
+    /// received and sent are sets of senders.
     pub fn words(&self) -> &[u64] {
         &self.words
     }

@@ -3,13 +3,14 @@
 use crate::library::calls;
 use crate::terms::form::Form;
 use crate::terms::refusals::Refusal;
+use crate::terms::rules::STOP;
 
-/// A step: a board moves by a rule, and may receive a message.
+/// A step: a board moves by a rule, and may receive a message; or it stops.
 #[derive(Clone, Copy, Debug, PartialEq, Eq, Hash)]
 pub struct Step {
     /// Which board moves.
     pub board: u8,
-    /// By which rule of the table.
+    /// By which rule of the table; or `STOP`, without a message.
     pub rule: u8,
     /// What it receives, if anything.
     pub message: Option<Message>,
@@ -41,6 +42,11 @@ pub enum Sender {
 const NONE: u8 = 255;
 
 impl Step {
+    /// The step that stops a board, which takes no further step.
+    pub fn stop(board: u8) -> Step {
+        Step { board, rule: STOP, message: None }
+    }
+
     /// The step of a record in a bundle of that form: board, rule, type, source. `None` where type and source are of no message
     /// and do not say that there is none.
     pub fn of(record: [u8; 4], form: Form) -> Option<Step> {
@@ -90,7 +96,8 @@ impl Sender {
 }
 
 /// The first possible step after the whole schedule, in the bundle's form, or `None` where the run is quiet: no board can do
-/// anything but wait. A wait has no message, and its rule leads from a state to the same.
+/// anything but wait. A wait has no message, and its rule leads from a state to the same. Neither a stop nor a step of a stopped
+/// board is possible.
 pub fn first_step(bundle: &[u8], standing: &[u8]) -> Result<Option<Step>, Refusal> {
     let first = calls::first_step(bundle, standing)?;
     let typed = |step: calls::Step| Step::of(step.record(), Form::of_bundle(bundle)?);

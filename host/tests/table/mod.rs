@@ -136,7 +136,7 @@ fn said(case: &mut Case, line: &str, named: &BTreeMap<&str, Vec<u8>>) {
             case.schedule = word == "schedule";
             case.bundle = bytes(rest, named);
         }
-        "result" | "sent" => case.report += &format!("{line}\n"),
+        "result" | "sent" | "stopped" => case.report += &format!("{line}\n"),
         "p" => {
             let (boards, counts) = rest.split_once(' ').unwrap_or_else(|| panic!("boards and counts: {line}"));
             let (first, last) = boards.split_once("..").unwrap_or((boards, boards));

@@ -1,7 +1,8 @@
 -- A refusal of reading is given on; otherwise the table in use gives numbers and rules, which stand for its design.
-use mathlib.Core.Path.{refl}
+use mathlib.Core.Path.{refl, sym, ap, _∙_}
 use native.Mathlib.Omega.{arith}
 use borrow.Author.Needs.{needs}
+use Rattle.words.specs.declared.Sizes.{Sizes}
 use Rattle.engine.proofs.EntryLaws.{suits, opens-refused, opens-read, opens-ready}
 use Rattle.engine.proofs.open.Statement.{statement}
 use Rattle.engine.proofs.open.Tie as tie
@@ -24,7 +25,7 @@ open-spec =
     -- keep-requires
     (λ c κs. let bound = c .before .before in let sizes = bound .before in let found = sizes .before in let reads = found .before .before .before in
     let st = reads .before .before .before .before .before in let a = st .args in
-    let R = opens-read (a .bundle .now) (a .standing .now) (reads .read-fault .ensures) (found .before .if1 .left) (found .table-in-use .ensures) in (suits _ (a .bundle .now) R (sizes .sizes-of .ensures), omega (arith, R .few-tolerated, bound .t .ensures .0), st .pre .0, st .pre .1))
+    let R = opens-read (a .bundle .now) (a .standing .now) (reads .read-fault .ensures) (found .before .if1 .left) (found .table-in-use .ensures) in (suits _ (a .bundle .now) R (sizes .sizes-of .ensures), omega (arith, R .few-tolerated, bound .t .ensures .0), st .pre .0, st .pre .1, bound .t .ensures .0 ∙ sym (ap (λ (s : Sizes). s .tolerated) (sizes .sizes-of .ensures))))
     (λ c. search needs) (λ c. search needs)
     -- returns-2
     (λ c. let kept = c .before .before .before .before in let bound = kept .before .before .before in let sizes = bound .before in let found = sizes .before in

@@ -25,4 +25,6 @@ print-configuration-spec =
     (λ c. search needs) (λ c. search needs) (λ c. search needs)
     -- print-sent-requires
     (λ c κs. c .before .before .before .pre)
+    -- print-stopped-requires
+    (λ c κs. c .before .before .before .before .pre)
     (λ c. search needs))

@@ -57,4 +57,4 @@ keep-spec =
     -- returns
     (λ c. let st = c .before .before .before .before .before .before .before in let a = st .args in
     let end = c .before .loop in
-    kept-by (a .s) (a .t) (a .table .now) (end .ends) (end .leasts) (st .pre .0) (ends-all (a .s) (a .table .now) (end .ends) (end .r) (a .s .rules) (end .inv .0) (c .loop-test .left) (end .inv .1)) (leasts-all (a .s) (a .t) (a .table .now) (end .leasts) (end .r) (a .s .rules) (end .inv .0) (c .loop-test .left) (end .inv .2))))
+    kept-by (a .s) (a .t) (a .table .now) (end .ends) (end .leasts) (st .pre .0) (ends-all (a .s) (a .table .now) (end .ends) (end .r) (a .s .rules) (end .inv .0) (c .loop-test .left) (end .inv .1)) (leasts-all (a .s) (a .t) (a .table .now) (end .leasts) (end .r) (a .s .rules) (end .inv .0) (c .loop-test .left) (end .inv .2)) (st .pre .4)))

@@ -16,4 +16,4 @@ at-level-spec =
     (λ c. omega (arith, mul-le-mul {n₂ = 4} {m₂ = 2} (c .before .before .pre) (c .before .wide .ensures .2)))
     -- returns
     (λ c. let s = c .before .before .args .s in
-    ap (λ (x : ℕ). record { level = c .before .before .args .k; correct = s .correct; faulty = s .faulty; types = s .types; rules = s .rules; wide = x; row = s .types * x }) (c .before .wide .ensures .0)))
+    ap (λ (x : ℕ). record { level = c .before .before .args .k; correct = s .correct; faulty = s .faulty; types = s .types; rules = s .rules; wide = x; row = s .types * x; tolerated = s .tolerated }) (c .before .wide .ensures .0)))

@@ -5,7 +5,7 @@ use native.Mathlib.Omega.{arith}
 use borrow.Author.Needs.{needs}
 use lib.ListN.{getD, set}
 use Rattle.words.proofs.LevelCases.{source-few, source-slot}
-use Rattle.words.proofs.PlaceLaws.{cell-next}
+use Rattle.words.proofs.PlaceLaws.{cell-before, cell-next}
 use Rattle.paper.proofs.FormLaws.{slot-below}
 use Rattle.paper.specs.Form.{wide, slot, bump}
 use Rattle.paper.specs.Words.{cell, hear}
@@ -23,7 +23,7 @@ hear-spec =
     let k = a .s .level in
     let i = c .before .cell-at in (
       (source-few k (a .s .correct) (a .s .faulty) (a .q) (st .pre .0 .boards) (st .pre .2 .below), i .ensures .2, omega (arith, st .pre .3 .fits, i .ensures .1, slot-below k (a .s .correct) (a .s .faulty) (a .q) (st .pre .2 .below))),
-      λ n. (source-slot k (a .s .correct) (a .s .faulty) (a .q) n (st .pre .2 .below), st .pre .3 .small n _),
+      λ n. (source-slot k (a .s .correct) (a .s .faulty) (a .q) n (st .pre .2 .below), st .pre .3 .small n _ (cell-before (a .s) (i .result) (i .result + a .q) (i .ensures .1) (omega (arith, source-slot k (a .s .correct) (a .s .faulty) (a .q) n (st .pre .2 .below))))),
     ))
     (λ c. search needs)
     -- returns

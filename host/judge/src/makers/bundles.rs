@@ -4,7 +4,7 @@ use crate::bench::Bench;
 use crate::dice::Dice;
 use crate::model::{read, Bundle, Configuration, Edition, Model, Outline};
 use macaroosh::calls::{Answer, Step};
-use macaroosh::{Form, ECHO};
+use macaroosh::{Form, ECHO, STOP};
 
 /// A distance of a trailer.
 pub fn little_endian(number: usize) -> [u8; 2] {
@@ -14,7 +14,9 @@ pub fn little_endian(number: usize) -> [u8; 2] {
 /// A table part without a fault, of either edition.
 pub fn table(dice: &mut Dice) -> Vec<u8> {
     let edition = if dice.once_in(2) { Edition::First } else { Edition::Second };
-    let counts = [dice.between(1, 16), dice.between(1, 64), dice.between(1, 4), dice.between(1, 8)];
+    // Often the most rules, of which none has the number of a stop.
+    let rules = if dice.once_in(8) { 64 } else { dice.between(1, 64) };
+    let counts = [dice.between(1, 16), rules, dice.between(1, 4), dice.between(1, 8)];
     table_of(dice, edition, counts)
 }
 
@@ -97,6 +99,11 @@ pub(super) fn bundle_of(dice: &mut Dice, table: &[u8], own: bool, forms: &[u8], 
     let t = dice.between(0, (n - 1) / factor);
     let f = dice.between(0, t);
     let form = dice.one_of(forms);
+    bundle_with(dice, table, own, [n, t, f], form)
+}
+
+/// The same of n, t, f and form.
+pub(super) fn bundle_with(dice: &mut Dice, table: &[u8], own: bool, [n, t, f]: [usize; 3], form: u8) -> Vec<u8> {
     let initial: Vec<u8> = (0..table[table.len() - 4]).filter(|&s| table[2 * usize::from(s)] & 1 == 1).collect();
     let mut bytes = if own { table.to_vec() } else { Vec::new() };
     bytes.extend((0..n - f).map(|_| dice.one_of(&initial)));
@@ -147,13 +154,16 @@ pub fn in_form(bench: &dyn Bench, bytes: &[u8], form: Form) -> Vec<u8> {
 
 fn walk(dice: &mut Dice, bundle: &Bundle) -> Vec<Step> {
     let length = dice.below(50);
+    let boards_stop = dice.once_in(3);
     let mut steps = Vec::new();
     let mut configuration = bundle.start();
     for _ in 0..300 {
         if steps.len() >= length {
             break;
         }
-        if let Some(step) = guess(dice, bundle, &configuration) {
+        let stop = boards_stop && dice.once_in(12);
+        let guess = if stop { Some(any_stop(dice, bundle)) } else { guess(dice, bundle, &configuration) };
+        if let Some(step) = guess {
             match Model.check(bundle, &configuration, step) {
                 Ok(()) => {
                     bundle.apply(&mut configuration, step);
@@ -169,6 +179,37 @@ fn walk(dice: &mut Dice, bundle: &Bundle) -> Vec<Step> {
     }
     if dice.once_in(8) {
         steps.push(wild(dice, bundle));
+    } else if dice.once_in(6) {
+        steps.extend(power_cut(dice, bundle, &configuration));
+    }
+    steps
+}
+
+fn any_stop(dice: &mut Dice, bundle: &Bundle) -> Step {
+    Step::stop(dice.below(bundle.correct()) as u8)
+}
+
+/// Stops of boards that are not stopped there, up to as many as may stop and so many more.
+pub(super) fn stops(dice: &mut Dice, bundle: &Bundle, configuration: &Configuration, more: usize) -> Vec<Step> {
+    let mut running: Vec<usize> = (0..bundle.correct()).filter(|p| !configuration.stopped.contains(p)).collect();
+    let allowed = bundle.t - bundle.f - configuration.stopped.len();
+    let count = [dice.below(allowed + more + 1), allowed, allowed + more][dice.below(3)];
+    let first = dice.below(running.len());
+    running.rotate_left(first);
+    running.iter().take(count).map(|&p| Step::stop(p as u8)).collect()
+}
+
+// Boards that stop, perhaps one too many, and then what may follow: another stop of the last one, any step of it, a stop with a
+// message, or nothing.
+fn power_cut(dice: &mut Dice, bundle: &Bundle, configuration: &Configuration) -> Vec<Step> {
+    let mut steps = stops(dice, bundle, configuration, 1);
+    let last = steps.last().map_or(0, |step| step.board);
+    match dice.below(6) {
+        0 => steps.push(Step::stop(last)),
+        1 => steps.push(Step { board: last, ..wild(dice, bundle) }),
+        2 => steps.push(Step { kind: 0, source: 0, ..any_stop(dice, bundle) }),
+        3 => steps.push(Step { rule: STOP, ..wild(dice, bundle) }),
+        _ => {}
     }
     steps
 }
@@ -180,7 +221,7 @@ pub fn wild(dice: &mut Dice, bundle: &Bundle) -> Step {
     let (kind, source) = (dice.below(bundle.table.types + 1) as u8, dice.below(bundle.sources() + 1) as u8);
     Step {
         board: dice.one_of(&[board, board, bundle.correct() as u8, 255]),
-        rule: dice.one_of(&[rule, rule, bundle.table.rules.len() as u8, 255]),
+        rule: dice.one_of(&[rule, rule, rule, bundle.table.rules.len() as u8, STOP, 255]),
         kind: dice.one_of(&[kind, kind, 255]),
         source: dice.one_of(&[source, source, 255]),
     }

@@ -44,13 +44,16 @@ pub fn growth() -> Vec<Pair> {
     pairs
 }
 
-/// Where the words are that a step changes, by the outline's order of words: the state of its board where the rule leads to
-/// another, the word of a cell that its source changes, the sent word of the type that its rule sends.
+/// Where the words are that a step changes, by the outline's order of words: the last, where it is a stop; else the state of its
+/// board where the rule leads to another, the word of a cell that its source changes, the sent word of the type that its rule sends.
 pub fn places(bundle: &Bundle, step: Step) -> Vec<usize> {
     let (p, m, q) = (usize::from(step.board), usize::from(step.kind), usize::from(step.source));
     let (correct, types) = (bundle.correct(), bundle.table.types);
     let wide = bundle.form.wide();
-    let rule = &bundle.table.rules[usize::from(step.rule)];
+    let rule = match bundle.rule(step) {
+        Some(rule) => rule,
+        None => return vec![correct + wide * types * correct + types],
+    };
     let mut places = if rule.from == rule.to { Vec::new() } else { vec![p] };
     if !step.silent() {
         places.push(correct + wide * (types * p + m) + if bundle.form == Form::Counting { q } else { 0 });

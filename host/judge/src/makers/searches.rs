@@ -2,7 +2,7 @@
 
 use crate::dice::Dice;
 use crate::makers::bundles::{self, FORMS};
-use crate::model::{read, Edition};
+use crate::model::{read, Edition, Model, Outline};
 use macaroosh::{Form, ECHO, MOST_DEPTH};
 
 /// What a search is asked of, but for its budget and what is lent.
@@ -37,7 +37,7 @@ const COUNTING: [u8; 1] = [Form::Counting as u8];
 
 type Kind = (&'static str, fn(&mut Dice) -> Asked);
 
-const KINDS: [Kind; 9] = [
+const KINDS: [Kind; 10] = [
     ("tiny", |dice| {
         let counts = [dice.between(1, 4), dice.between(1, 4), 1];
         let n = dice.between(1, 3);
@@ -59,6 +59,7 @@ const KINDS: [Kind; 9] = [
         let n = dice.between(1, 64);
         (of_table(dice, counts, n, &COUNTING), dice.below(3) as u64)
     }),
+    ("stopped boards", |dice| (stopped(dice), dice.below(5) as u64)),
     ("any form", |dice| (small(dice, &FORMS), dice.below(5) as u64)),
     ("too deep", |dice| {
         let depth = too_deep(dice);
@@ -80,12 +81,32 @@ fn small(dice: &mut Dice, forms: &[u8]) -> (Vec<u8>, Vec<u8>) {
     of_table(dice, counts, n, forms)
 }
 
-// A bundle of n boards and the first of its steps, with a table of so many states, rules and types in front or beside.
-fn of_table(dice: &mut Dice, [states, rules, types]: [usize; 3], n: usize, forms: &[u8]) -> (Vec<u8>, Vec<u8>) {
+// A table of so many states, rules and types, and that k.
+fn table(dice: &mut Dice, [states, rules, types]: [usize; 3], factor: usize) -> Vec<u8> {
     let edition = Edition::ALL[dice.below(2)];
-    let factor = dice.between(1, 3);
     let mut table = bundles::table_of(dice, edition, [states, rules, types, factor]);
     accept_few(dice, &mut table, states);
+    table
+}
+
+// A few boards, of which some stop after the first of their steps: f is below t.
+fn stopped(dice: &mut Dice) -> (Vec<u8>, Vec<u8>) {
+    let counts = [dice.between(2, 6), dice.between(1, 10), dice.between(1, 3)];
+    let table = table(dice, counts, 1);
+    let n = dice.between(2, 5);
+    let t = dice.between(1, n - 1);
+    let f = dice.below(t);
+    let bundle = bundles::bundle_with(dice, &table, false, [n, t, f], COUNTING[0]);
+    let bundle = fewer_steps(dice, &bundle, &table);
+    let whole = read(&bundle, &table).expect("a bundle");
+    let stops = bundles::stops(dice, &whole, &Model.run_steps(&whole).0, 0);
+    (stops.iter().fold(bundle, |bundle, &stop| bundles::with(&bundle, stop)), table)
+}
+
+// A bundle of n boards and the first of its steps, with a table of so many states, rules and types in front or beside.
+fn of_table(dice: &mut Dice, counts: [usize; 3], n: usize, forms: &[u8]) -> (Vec<u8>, Vec<u8>) {
+    let factor = dice.between(1, 3);
+    let table = table(dice, counts, factor);
     let own = dice.once_in(2);
     let bundle = bundles::bundle_of(dice, &table, own, forms, n);
     let bundle = fewer_steps(dice, &bundle, &table);

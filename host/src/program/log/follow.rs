@@ -9,7 +9,7 @@ use crate::show::{self, Columns, Style};
 use crate::trace::{self, Move};
 use macaroosh::calls::Step;
 use macaroosh::parts::{Parts, Picture};
-use macaroosh::MOST_STEPS;
+use macaroosh::{MOST_STEPS, STOP};
 use std::fs::File;
 use std::io::{ErrorKind, Read};
 use std::path::Path;
@@ -146,7 +146,7 @@ fn row(parts: &Parts, made: &Move) -> Vec<String> {
     trace::signed(trace::row(parts, made), made.swaps)
 }
 
-// Rows of which some is as wide as any that may come, in each column: the largest numbers, by each rule, of each message.
+// Rows of which some is as wide as any that may come, in each column: the largest numbers, by each rule, of each message, and a stop.
 fn widest(parts: &Parts) -> Vec<Move> {
     let (correct, types) = (parts.correct(), parts.types as u8);
     let sources = [correct as u8 - 1, parts.n as u8 - 1];
@@ -156,11 +156,12 @@ fn widest(parts: &Parts) -> Vec<Move> {
         states: vec![0; correct],
         received: vec![vec![vec![correct as u32, parts.f as u32]; parts.types]; correct],
         sent: vec![correct as u32; parts.types],
+        stopped: 0,
     };
     let made = |rule: u8, (kind, source): (u8, u8)| {
         let step = Step { board: correct as u8 - 1, rule, kind, source };
         Move { number: MOST_STEPS - 1, step, other: step, after: after.clone(), swaps: true }
     };
     let by = |rule: u8| messages.iter().map(|&message| made(rule, message)).collect::<Vec<Move>>();
-    (0..parts.rules() as u8).flat_map(by).collect()
+    (0..parts.rules() as u8).flat_map(by).chain([made(STOP, (255, 255))]).collect()
 }

@@ -5,7 +5,7 @@
 //! board 2 rule 3 type 0 from 0
 //! ```
 //!
-//! and becomes a step of a bundle in message form. The library reads them; here they are shown, followed and written.
+//! and becomes a step of a bundle in message form, by rule 254 a stop. The library reads them; here they are shown, followed and written.
 
 pub mod follow;
 mod line;

@@ -15,7 +15,7 @@ const EDITOR: &str = "as an editor counts from 1";
 pub fn of_replay(bundle: &[u8], standing: &[u8], log: &[u8], refusal: Refusal) -> Vec<String> {
     let place = refusal.place as usize;
     match refusal.number {
-        20..=25 => {
+        20..=27 => {
             let step = format!("step {place} is line {} of the log, {EDITOR}", place + 1);
             [why::of_bundle(bundle, standing, refusal), vec![step]].concat()
         }

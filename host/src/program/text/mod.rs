@@ -5,6 +5,7 @@
 //! start 1 1 1                     # a state for each correct board
 //! board 0 rule 3                  # no message
 //! board 2 rule 3 type 0 from 0    # a sender; in counting form correct or faulty; in plain form no 'from'
+//! board 1 rule 254                # it loses power and stops
 //! ```
 //!
 //! Where a form has no such words for a source, its number stands, so that every record can be written.
