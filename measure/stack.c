@@ -1,6 +1,6 @@
 /* The deepest stack of each exported call, its return address included: each is called on a painted stack of its own, on
  * schedule W in each form and for each form asked for, or the echo table, its drawing and its second edition, or W's log, or a
- * search that goes eight steps deep, and the lowest byte that lost its paint is looked up. Prints 'NAME BYTES'. */
+ * search that goes eight steps deep, or a check of a list, and the lowest byte that lost its paint is looked up. Prints 'NAME BYTES'. */
 #define _XOPEN_SOURCE 600
 #include "macaroosh.h"
 
@@ -44,6 +44,7 @@ static const uint8_t silent[] = {0x00, 0x00, 0x00, 0x00, 0x00, 0x00, 0x00, 0x00,
 static uint8_t stack[1 << 16], out[32], text[MACAROOSH_MOST_DRAWING], table[MACAROOSH_MOST_TABLE], back[sizeof echo];
 static size_t text_length, table_length;
 static uint64_t words[MACAROOSH_MOST_WORDS], tried;
+static const uint64_t start[20];
 static const uint8_t *w;
 static uint64_t asked;
 static ucontext_t here, there;
@@ -69,6 +70,9 @@ static void replay(void) {
 static void search(void) {
     answer = macaroosh_search(silent, sizeof silent, echo, sizeof echo, MACAROOSH_MOST_DEPTH, 2000, out, sizeof out, &tried);
 }
+
+/* The start alone, from which a step leads outside. */
+static void check(void) { answer = macaroosh_check_list(silent, sizeof silent, echo, sizeof echo, start, 20); }
 
 static void to_second(void) { answer = macaroosh_to_second(echo, sizeof echo, table, sizeof table); }
 static void to_first(void) { answer = macaroosh_to_first(table, table_length, back, sizeof back); }
@@ -109,6 +113,7 @@ int main(void) {
     measure("macaroosh_undraw", undraw);
     measure("macaroosh_replay", replay);
     measure("macaroosh_search", search);
+    measure("macaroosh_check_list", check);
     measure("macaroosh_to_second", to_second);
     table_length = macaroosh_count(answer);
     measure("macaroosh_to_first", to_first);

@@ -112,6 +112,20 @@ uint64_t macaroosh_replay(const uint8_t *bundle, size_t bundle_length, const uin
 uint64_t macaroosh_search(const uint8_t *bundle, size_t bundle_length, const uint8_t *standing, size_t standing_length,
                           uint64_t depth, uint64_t budget, uint8_t *out, size_t out_length, uint64_t *tried);
 
+/* The most boards (n - f) and the most configurations of a list that is checked. */
+#define MACAROOSH_MOST_LISTED_BOARDS 6
+#define MACAROOSH_MOST_LISTED 512
+
+/* Checks a list of configurations: words, one configuration after the other as macaroosh_run leaves them in counting form, sorted
+ * strictly upward, the first word the most significant. The bundle, in counting form and without steps, gives the table, n, t, f
+ * and the starts. It is accepted exactly where the start is listed, every possible step but a stop leads from a listed
+ * configuration to a listed one, and no listed board is in an accepting state. Then no schedule of any length, in any form, leads
+ * from these starts to an accepting state. Listed configurations need not be reached. Answers packed: refusal, place, number of
+ * configurations (0 with any refusal). The refusals after 14 are 70 to 74, each over the whole list before the next. It writes
+ * nothing. */
+uint64_t macaroosh_check_list(const uint8_t *bundle, size_t bundle_length, const uint8_t *standing, size_t standing_length,
+                              const uint64_t *list, size_t list_length);
+
 /* Writes a first-edition table part in the second edition, with e = 1 for every rule and type, to the lent bytes, of which
  * MACAROOSH_MOST_TABLE are always enough; any schedule runs the same on both. Answers packed: refusal (1 to 9, 33, 30), place,
  * bytes written. Any refusal leaves the bytes as they were. Bytes past the written ones never change. */
@@ -134,6 +148,9 @@ uint64_t macaroosh_to_first(const uint8_t *table, size_t table_length, uint8_t *
  *   52 the bundle has steps or is not in message form (replay)
  *   51 a line 4,096 is there [line] (replay)       50 a line of another shape, or a number over 254 [line] (replay)
  *   34 a depth over 8 (search)                     35 not in counting form (search)
+ *   70 not counting form, steps, over 6 boards, no whole number of configurations, over 512; or out of order [the later one]
+ *   71 a word out of range [configuration]         72 the start is not listed
+ *   73 a step leads outside [configuration]        74 a board is accepting [configuration]  (70 to 74: check_list)
  *   32 a divisor is not 1 [rule] (to_first)        33 in that edition already (to_second, to_first)
  *   30 lent output too short (run, translate, translate_to, to_second, to_first, search, replay: either)
  *   20 board not below n - f [step]                26 the board is stopped [step]

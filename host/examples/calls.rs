@@ -1,4 +1,4 @@
-use macaroosh::{draw, first_step, replay, run, run_into, search, to_first, to_second, translate, undraw};
+use macaroosh::{check_list, draw, first_step, replay, run, run_into, search, to_first, to_second, translate, undraw};
 use macaroosh::{Form, Message, Outcome, Refusal, Sender, Step, ECHO, MOST_WORDS};
 
 fn main() -> Result<(), Refusal> {
@@ -53,6 +53,12 @@ fn main() -> Result<(), Refusal> {
     counting[..3].copy_from_slice(&[0, 0, 0]);
     let none = search(&counting, &ECHO, 3, 1_000)?;
     assert_eq!((none.outcome, none.tried), (Outcome::None, 540));
+
+    // All that these boards come to, by themselves and by what the faulty one sends: each has heard it or not. No step leads out of the
+    // list and no board in it accepts, so that none ever does. Without the last configuration a step leads there from the fourth.
+    let all: Vec<u64> = (0..8).flat_map(|set| [0, 0, 0, 0, set >> 2, 0, set >> 1 & 1, 0, set & 1, 0, 0]).collect();
+    assert_eq!(check_list(&counting, &ECHO, &all)?, 8);
+    assert_eq!(check_list(&counting, &ECHO, &all[..77]), Err(Refusal { number: 73, place: 3 }));
 
     // The echo table as a drawing, and back.
     let drawing = draw(&ECHO)?;

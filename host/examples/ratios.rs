@@ -1,9 +1,9 @@
 //! The proved library beside the hand-written fast version, measured in turns in one run; docs/COST.md has the cases.
 //!
 //! - `ratios` prints a line for each case, question and form: both times of one call, and their ratio.
-//! - `ratios write FOLDER` writes each case's bundle there and prints a line for each measurement: file, question, and of a search
-//!   how many are tried.
-//! - `ratios one library|rust run|translate|first|replay|search-D FILE COUNT` only asks the question so often, to be counted from
+//! - `ratios write FOLDER` writes each case's bundle there, a list beside its bundle as FILE.list, and prints a line for each
+//!   measurement: file, question, and of a search how many are tried.
+//! - `ratios one library|rust run|translate|first|replay|search-D|check FILE COUNT` only asks the question so often, to be counted from
 //!   outside; D is a search's depth.
 //!
 //! A replay is that of the bundle's own log over the bundle without its steps; less a run of the bundle it is the log's reader.
@@ -11,18 +11,18 @@
 use judge::fast::Fast;
 use judge::logs::log_of;
 use judge::makers::bundles::without_steps;
-use judge::makers::cases::{cases, searches, Case, SearchCase};
+use judge::makers::cases::{cases, lists, searches, Case, ListCase, SearchCase};
 use judge::model::{read, Model};
-use judge::{Bench, Library, Limits, Replays, Searches};
+use judge::{Bench, Checks, Library, Limits, Replays, Searches};
 use macaroosh::calls::{Answer, First, NONE};
 use macaroosh::{Form, ECHO, MOST_DEPTH, MOST_WORDS};
 use std::process::ExitCode;
 use std::time::{Duration, Instant};
 
 // Whoever answers every question.
-trait Side: Bench + Replays + Searches {}
+trait Side: Bench + Replays + Searches + Checks {}
 
-impl<S: Bench + Replays + Searches> Side for S {}
+impl<S: Bench + Replays + Searches + Checks> Side for S {}
 
 fn main() -> ExitCode {
     let words: Vec<String> = std::env::args().skip(1).collect();
@@ -60,7 +60,7 @@ fn ratios() -> Result<(), String> {
         agree(&case)?;
         let mut of_run = [0.0; 2];
         for question in questions(&case) {
-            let both = times(&case.bundle, question)?;
+            let both = times(&case.bundle, &[], question)?;
             tell(case.name, case.form, question, both);
             match *question {
                 "run" => of_run = both,
@@ -71,9 +71,13 @@ fn ratios() -> Result<(), String> {
     }
     for case in searches() {
         let tried = tried(&case)?;
-        let both = times(&case.bundle, &question(&case))?;
+        let both = times(&case.bundle, &[], &question(&case))?;
         tell(case.name, Form::Counting, &question(&case), both);
         tell(case.name, Form::Counting, "try", both.map(|time| time / tried as f64));
+    }
+    for case in lists() {
+        accepted(&case)?;
+        tell(case.name, Form::Counting, "check", times(&case.bundle, &case.list, "check")?);
     }
     Ok(())
 }
@@ -102,6 +106,14 @@ fn write(folder: &str) -> Result<(), String> {
             .map_err(|cause| format!("{folder}/{}: {cause}", case.name))?;
         println!("{} {} {tried}", case.name, question(&case));
     }
+    for case in lists() {
+        accepted(&case)?;
+        let list: Vec<u8> = case.list.iter().flat_map(|word| word.to_le_bytes()).collect();
+        for (name, bytes) in [(case.name.to_string(), &case.bundle), (list_of(case.name), &list)] {
+            std::fs::write(format!("{folder}/{name}"), bytes).map_err(|cause| format!("{folder}/{name}: {cause}"))?;
+        }
+        println!("{} check", case.name);
+    }
     Ok(())
 }
 
@@ -113,14 +125,27 @@ fn one(side: &str, question: &str, file: &str, count: &str) -> Result<(), String
     };
     let bundle = std::fs::read(file).map_err(|cause| format!("{file}: {cause}"))?;
     let count = count.parse().map_err(|_| format!("'{count}' is no count"))?;
-    Asked::new(&bundle)?.ask(bench, &bundle, question, count);
+    let list = if question == "check" { words(&list_of(file))? } else { Vec::new() };
+    Asked::new(&bundle, &list)?.ask(bench, &bundle, question, count);
     Ok(())
+}
+
+// The file of a bundle's list.
+fn list_of(file: &str) -> String {
+    format!("{file}.list")
+}
+
+// The words of a file.
+fn words(file: &str) -> Result<Vec<u64>, String> {
+    let bytes = std::fs::read(file).map_err(|cause| format!("{file}: {cause}"))?;
+    let word = |bytes: &[u8]| bytes.iter().rev().fold(0, |word, &byte| word << 8 | u64::from(byte));
+    Ok(bytes.chunks_exact(8).map(word).collect())
 }
 
 // Refuses a case on which the model, the library and the fast version differ.
 fn agree(case: &Case) -> Result<(), String> {
     let answers = |bench: &dyn Side| -> Result<Asked, String> {
-        let mut asked = Asked::new(&case.bundle)?;
+        let mut asked = Asked::new(&case.bundle, &[])?;
         for question in ["run", "translate", "first", "replay"] {
             asked.ask(bench, &case.bundle, question, 1);
         }
@@ -139,7 +164,7 @@ fn agree(case: &Case) -> Result<(), String> {
 // How many a search tries that finds nothing; refuses one on which the model, the library and the fast version differ.
 fn tried(case: &SearchCase) -> Result<u64, String> {
     let answers = |bench: &dyn Side| -> Result<Asked, String> {
-        let mut asked = Asked::new(&case.bundle)?;
+        let mut asked = Asked::new(&case.bundle, &[])?;
         asked.ask(bench, &case.bundle, &question(case), 1);
         Ok(asked)
     };
@@ -153,10 +178,21 @@ fn tried(case: &SearchCase) -> Result<u64, String> {
     Ok(told.tried)
 }
 
-// What is replayed, lent memory, and the last answer to each question.
+// Refuses a list that the model, the library and the fast version do not all accept.
+fn accepted(case: &ListCase) -> Result<(), String> {
+    for bench in [&Model as &dyn Side, &Library, &Fast] {
+        if bench.check_list(&case.bundle, &ECHO, &case.list).refusal != 0 {
+            return Err(format!("{} is not accepted", case.name));
+        }
+    }
+    Ok(())
+}
+
+// What is replayed, what is checked, lent memory, and the last answer to each question.
 #[derive(PartialEq)]
 struct Asked {
     empty: Vec<u8>,
+    list: Vec<u64>,
     log: Vec<u8>,
     words: Vec<u64>,
     out: Vec<u8>,
@@ -168,13 +204,15 @@ struct Asked {
     first: Option<First>,
     replay: Option<Answer>,
     search: Option<Answer>,
+    check: Option<Answer>,
 }
 
 impl Asked {
-    fn new(bundle: &[u8]) -> Result<Asked, String> {
+    fn new(bundle: &[u8], list: &[u64]) -> Result<Asked, String> {
         let steps = read(bundle, &ECHO).map_err(|refusal| refusal.to_string())?.steps;
         Ok(Asked {
             empty: without_steps(bundle),
+            list: list.to_vec(),
             log: log_of(&steps).into_bytes(),
             words: vec![0; MOST_WORDS],
             out: vec![0; bundle.len()],
@@ -186,6 +224,7 @@ impl Asked {
             first: None,
             replay: None,
             search: None,
+            check: None,
         })
     }
 
@@ -197,6 +236,7 @@ impl Asked {
             match question {
                 "run" => self.run = Some(bench.run(bundle, &ECHO, &mut self.words)),
                 "translate" => self.translate = Some(bench.translate(bundle, &ECHO, &mut self.out)),
+                "check" => self.check = Some(bench.check_list(bundle, &ECHO, &self.list)),
                 "first" => self.first = Some(bench.first_step(bundle, &ECHO)),
                 _ if question.starts_with("search-") => {
                     let answer = bench.search(bundle, &ECHO, limits, &mut self.found, &mut self.tried);
@@ -212,9 +252,9 @@ impl Asked {
 
 // The least time of one call of the library and of the fast version, in nanoseconds: rounds of calls in turns, each as
 // many as fill some milliseconds.
-fn times(bundle: &[u8], question: &str) -> Result<[f64; 2], String> {
+fn times(bundle: &[u8], list: &[u64], question: &str) -> Result<[f64; 2], String> {
     const SIDES: [&dyn Side; 2] = [&Library, &Fast];
-    let mut asked = Asked::new(bundle)?;
+    let mut asked = Asked::new(bundle, list)?;
     let mut timed = |bench, count| {
         let start = Instant::now();
         asked.ask(bench, bundle, question, count);

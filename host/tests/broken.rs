@@ -3,7 +3,7 @@
 //! the second edition of rules; the others are what the outline asks to be caught.
 
 use judge::compare::compare;
-use judge::dice::Dice;
+use judge::dice::{each, part_of, Dice};
 use judge::makers::bundles::case;
 use judge::model::{check_sent, sum, Bundle, Coefficients, Configuration, Edition, Messages};
 use judge::model::{Model, Outline, Rule, State, Table};
@@ -11,9 +11,11 @@ use judge::{Bench, Library};
 use macaroosh::calls::{Answer, First, Step};
 use macaroosh::{Form, Refusal};
 
-// The first seed whose bundle shows the difference.
-fn caught(broken: &dyn Bench) -> Option<u64> {
-    (1..=2_000).find(|&seed| {
+const SEEDS: u64 = 2_000;
+
+// The first seed whose bundle shows the difference, of so many.
+fn caught(broken: &dyn Bench, seeds: u64) -> Option<u64> {
+    (1..=seeds).find(|&seed| {
         let dice = &mut Dice::new(seed);
         let (bundle, standing) = case(dice);
         compare(broken, &Library, &bundle, &standing, dice).is_err()
@@ -398,7 +400,7 @@ fn place_lost(bundle: &[u8], standing: &[u8]) -> First {
 
 #[test]
 fn every_broken_bench_is_caught() {
-    let broken: [(&str, &dyn Bench); 41] = [
+    let broken: [(&str, &(dyn Bench + Sync)); 41] = [
         ("a joint count", &JointCount),
         ("thresholds before the receipt", &CountsBefore),
         ("hears its own echo at once", &HearsItself),
@@ -441,15 +443,15 @@ fn every_broken_bench_is_caught() {
         ("always none", &But { first_step: always_none, ..SOUND }),
         ("the place lost", &But { first_step: place_lost, ..SOUND }),
     ];
-    for (name, bench) in broken {
-        let seed = caught(bench).unwrap_or_else(|| panic!("not caught: {name}"));
+    each(&broken, |&(name, bench)| {
+        let seed = caught(bench, SEEDS).unwrap_or_else(|| panic!("not caught: {name}"));
         println!("{name}: seed {seed}");
-    }
+    });
 }
 
 #[test]
 fn a_sound_bench_is_not_caught() {
-    assert_eq!(caught(&SOUND), None);
+    assert_eq!(caught(&SOUND, part_of(SEEDS)), None);
 }
 
 #[test]

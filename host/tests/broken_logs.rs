@@ -2,7 +2,7 @@
 //! of them break a sentence about lines, then about the bundle and its order among the refusals; the others a whole call.
 
 use judge::compare::compare_replay;
-use judge::dice::Dice;
+use judge::dice::{each, part_of, Dice};
 use judge::logs::LogOutline;
 use judge::makers::logs::any;
 use judge::model::{read, Bundle, Model};
@@ -10,9 +10,11 @@ use judge::{Bench, Library, Replays};
 use macaroosh::calls::{Answer, Step};
 use macaroosh::{Form, Refusal, MOST_WORDS};
 
-// The first seed whose log shows the difference.
-fn caught(broken: &dyn Replays) -> Option<u64> {
-    (1..=3_000).find(|&seed| {
+const SEEDS: u64 = 3_000;
+
+// The first seed whose log shows the difference, of so many.
+fn caught(broken: &dyn Replays, seeds: u64) -> Option<u64> {
+    (1..=seeds).find(|&seed| {
         let dice = &mut Dice::new(seed);
         let replay = any(dice);
         compare_replay(broken, &Library, &replay, dice).is_err()
@@ -451,7 +453,7 @@ fn counts_lines(asked: Asked, out: &mut [u8], words: &mut [u64]) -> Answer {
 
 #[test]
 fn every_broken_replay_is_caught() {
-    let broken: [(&str, &dyn Replays); 55] = [
+    let broken: [(&str, &(dyn Replays + Sync)); 55] = [
         ("a leading zero", &Numbers(leading_zeros)),
         ("a plus sign", &Numbers(plus_sign)),
         ("255", &Numbers(up_to_255)),
@@ -508,13 +510,14 @@ fn every_broken_replay_is_caught() {
         ("lines from 1", &But(place_from_1)),
         ("lines before a wrong one counted", &But(counts_lines)),
     ];
-    for (name, broken) in broken {
-        let seed = caught(broken).unwrap_or_else(|| panic!("not caught: {name}"));
+    each(&broken, |&(name, broken)| {
+        let seed = caught(broken, SEEDS).unwrap_or_else(|| panic!("not caught: {name}"));
         println!("{name}: seed {seed}");
-    }
+    });
 }
 
 #[test]
 fn a_sound_replay_is_not_caught() {
-    assert_eq!(caught(&But(|asked, out, words| asked.replayed(out, words))), None);
+    let sound = But(|asked, out, words| asked.replayed(out, words));
+    assert_eq!(caught(&sound, part_of(SEEDS)), None);
 }

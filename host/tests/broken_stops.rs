@@ -1,7 +1,7 @@
 //! The comparison can fail where boards stop: each bench that takes stops wrongly differs from the library on some seeded bundle.
 
 use judge::compare::compare;
-use judge::dice::Dice;
+use judge::dice::{each, part_of, Dice};
 use judge::makers::bundles::case;
 use judge::model::{read, Bundle, Configuration, Messages, Model, Outline};
 use judge::{Bench, Library};
@@ -258,7 +258,7 @@ fn word_first(bundle: &[u8], standing: &[u8], words: &mut [u64]) -> Answer {
 
 #[test]
 fn every_bench_that_takes_stops_wrongly_is_caught() {
-    let broken: [(&str, &dyn Bench); 37] = [
+    let broken: [(&str, &(dyn Bench + Sync)); 37] = [
         ("a stopped board steps", &Given(stopped_board_steps)),
         ("a stopped board stops again", &Given(stops_again)),
         ("26 after 21", &Given(later::<21>)),
@@ -303,10 +303,10 @@ fn every_bench_that_takes_stops_wrongly_is_caught() {
         ),
         ("the stopped word first", &Run(word_first)),
     ];
-    for (name, bench) in broken {
+    each(&broken, |&(name, bench)| {
         let seed = (1..=4_000).find(|&seed| differs(bench, seed)).unwrap_or_else(|| panic!("not caught: {name}"));
         println!("{name}: seed {seed}");
-    }
+    });
 }
 
 fn in_plain_form(form: Form, step: Step) -> Step {
@@ -319,14 +319,14 @@ fn in_plain_form(form: Form, step: Step) -> Step {
 // Variants that change nothing, by each way in which one is made.
 #[test]
 fn a_sound_bench_is_not_caught() {
-    let sound: [(&str, &dyn Bench); 5] = [
+    let sound: [(&str, &(dyn Bench + Sync)); 5] = [
         ("what is given", &Given(|_, _, _, given| given)),
         ("the bound", &Bound(|bundle, stopped| stopped + 1 + bundle.f <= bundle.t)),
         ("what changes", &Changes(|_, _, _| {})),
         ("what is translated", &Translates(|_, step| step)),
         ("the last word", &Run(|bundle, standing, words| word_changed(bundle, standing, words, |set| set))),
     ];
-    for (name, bench) in sound {
-        assert_eq!((1..=400).find(|&seed| differs(bench, seed)), None, "{name}");
-    }
+    each(&sound, |&(name, bench)| {
+        assert_eq!((1..=part_of(400)).find(|&seed| differs(bench, seed)), None, "{name}");
+    });
 }

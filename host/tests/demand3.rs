@@ -1,7 +1,7 @@
 //! Demand 3 on a bench's own outputs: what a schedule does in one form, its translation does in each other. Where one of the two
 //! is plain, sums stand in place of the correct and faulty counts.
 
-use judge::dice::{each_seed, Dice};
+use judge::dice::{each_seed, part_of, Dice};
 use judge::fast::Fast;
 use judge::makers::bundles::{any, in_form, with};
 use judge::model::{read, Model};
@@ -100,10 +100,10 @@ fn holds(bench: &dyn Bench, seed: u64) -> Vec<(Form, Form, bool)> {
 }
 
 fn holds_on(bench: &(dyn Bench + Sync)) {
-    let all = each_seed(1_500, |seed| holds(bench, seed));
+    let all = each_seed(part_of(1_500), |seed| holds(bench, seed));
     let refused = all.iter().filter(|agreed| agreed.is_empty()).count();
     let translated = all.len() - refused;
-    assert!(translated > 250 && refused > 250, "{translated} translated, {refused} refused");
+    assert!(translated.min(refused) as u64 > part_of(250), "{translated} translated, {refused} refused");
     let seen: BTreeSet<(Form, Form, bool)> = all.into_iter().flatten().collect();
     // Each of the six pairs, quiet and not.
     assert_eq!(seen.len(), 12, "{seen:?}");
@@ -147,7 +147,7 @@ fn accepts_alike(bench: &dyn Bench, seed: u64) -> Vec<u8> {
 }
 
 fn accepts_alike_on(bench: &(dyn Bench + Sync)) {
-    let seen: BTreeSet<u8> = each_seed(500, |seed| accepts_alike(bench, seed)).into_iter().flatten().collect();
+    let seen: BTreeSet<u8> = each_seed(part_of(500), |seed| accepts_alike(bench, seed)).into_iter().flatten().collect();
     assert_eq!(seen.into_iter().collect::<Vec<_>>(), [0, 20, 21, 22, 23, 24, 25, 26, 27]);
 }
 

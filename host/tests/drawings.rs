@@ -2,7 +2,7 @@
 //! and texts, every lent byte. `DRAWINGS=n` tries more than 2,000 of each.
 
 use judge::compare::{compare_draw, compare_undraw};
-use judge::dice::{each_seed, seeds, Dice};
+use judge::dice::{bytes_at, each_seed, part_of, seeds, Dice};
 use judge::drawings::{Drawing, Text};
 use judge::makers::sketches;
 use judge::model::{read_table, Coefficients, Edition, Model, Rule};
@@ -184,8 +184,10 @@ fn every_beginning_goes_on() {
     let largest = Model.text(&wide(16, 64, 20, 8));
     for text in [ECHO_DRAWN, MAJORITY_DRAWN, &close_set(&tokens, 3, " \r\n\t"), &largest] {
         let whole = text.find('}').expect("the end") + 1;
+        // Where it is emulated, every eighth of the largest.
+        let step = if text == largest { 8 / part_of(8) } else { 1 };
         for (who, drawer) in DRAWERS {
-            for length in 0..whole {
+            for length in (0..whole).step_by(step as usize) {
                 let got = undrawn(drawer, &text.as_bytes()[..length]);
                 assert_eq!(got, Err((60, length as u32)), "{who}: {}", &text[..length]);
             }
@@ -344,7 +346,7 @@ fn a_byte_that_no_drawing_has_is_pointed_at() {
 fn a_stray_byte_is_pointed_at(drawing: &str) {
     let known = b"digrapht{}Tk=;s[]label\"->, 0123456789\t\n\r";
     for (who, drawer) in DRAWERS {
-        for (at, stray) in (0..=drawing.len()).flat_map(|at| (0..=255).map(move |stray| (at, stray))) {
+        for (at, stray) in (0..=drawing.len()).flat_map(|at| bytes_at(at).map(move |stray| (at, stray))) {
             if !known.contains(&stray) {
                 let mut text = drawing.as_bytes().to_vec();
                 text.insert(at, stray);
@@ -367,7 +369,7 @@ fn both_agree_on_every_change_of_one_byte() {
             let (before, after) = text.as_bytes().split_at(at);
             let others = after.get(1..).unwrap_or(&[]);
             agree(&[before, others].concat());
-            for byte in 0..=255 {
+            for byte in bytes_at(at) {
                 agree(&[before, &[byte], after].concat());
                 agree(&[before, &[byte], others].concat());
             }
@@ -399,7 +401,7 @@ fn can_end(who: &dyn Draws, text: &[u8]) -> bool {
 
 #[test]
 fn up_to_its_place_a_text_can_end_as_a_drawing_and_no_further() {
-    let places = each_seed(3_000, |seed| {
+    let places = each_seed(part_of(3_000), |seed| {
         let text = sketches::text(&mut Dice::new(seed));
         // Small ones do.
         let place = Model.table(&text).err().filter(|refusal| refusal.number == 60 && text.len() < 600)?.place as usize;
@@ -411,7 +413,7 @@ fn up_to_its_place_a_text_can_end_as_a_drawing_and_no_further() {
         Some(place)
     });
     let places: BTreeSet<usize> = places.into_iter().flatten().collect();
-    assert!(places.len() > 100, "{places:?}");
+    assert!(places.len() as u64 > part_of(100), "{places:?}");
 }
 
 #[test]
@@ -482,7 +484,7 @@ fn a_place_past_16_mib_is_given_as_the_last() {
 
 #[test]
 fn tables_are_drawn_and_read_back() {
-    each_seed(2_000, |seed| {
+    each_seed(part_of(2_000), |seed| {
         let table = sketches::table(&mut Dice::new(seed));
         for (who, drawer) in DRAWERS {
             match drawn(drawer, &table) {
@@ -495,7 +497,7 @@ fn tables_are_drawn_and_read_back() {
 
 #[test]
 fn texts_are_read_and_drawn_as_they_are_written() {
-    let read = each_seed(2_000, |seed| {
+    let read = each_seed(part_of(2_000), |seed| {
         let text = sketches::text(&mut Dice::new(seed));
         DRAWERS.iter().all(|(who, drawer)| match undrawn(*drawer, &text) {
             Ok(table) => {
@@ -508,12 +510,16 @@ fn texts_are_read_and_drawn_as_they_are_written() {
             Err(_) => false,
         })
     });
-    assert!(read.iter().filter(|&&read| read).count() > 500);
+    assert!(read.iter().filter(|&&read| read).count() as u64 > part_of(500));
 }
 
-// Both agree on what is made of each seed, and the seeds come to just those refusals.
-fn agree_on_seeds(refusals: &[u8], compared: impl Fn(&mut Dice) -> (Vec<u8>, Result<Vec<u8>, String>) + Sync) {
-    let seen = each_seed(seeds("DRAWINGS", 2_000), |seed| {
+// Both agree on what is made of each seed, and the seeds, of which so many are needed, come to just those refusals.
+fn agree_on_seeds(
+    fewest: u64,
+    refusals: &[u8],
+    compared: impl Fn(&mut Dice) -> (Vec<u8>, Result<Vec<u8>, String>) + Sync,
+) {
+    let seen = each_seed(seeds("DRAWINGS", part_of(2_000).max(fewest)), |seed| {
         let (input, compared) = compared(&mut Dice::new(seed));
         compared.unwrap_or_else(|difference| {
             panic!("seed {seed}: {difference}\n{}\n{input:02x?}", String::from_utf8_lossy(&input))
@@ -525,7 +531,7 @@ fn agree_on_seeds(refusals: &[u8], compared: impl Fn(&mut Dice) -> (Vec<u8>, Res
 
 #[test]
 fn the_library_draws_as_the_model_does() {
-    agree_on_seeds(&[0, 1, 2, 3, 4, 5, 6, 7, 8, 9, 61], |dice| {
+    agree_on_seeds(250, &[0, 1, 2, 3, 4, 5, 6, 7, 8, 9, 61], |dice| {
         let table = sketches::table(dice);
         let compared = compare_draw(&Model, &Library, &table, dice);
         (table, compared)
@@ -534,7 +540,7 @@ fn the_library_draws_as_the_model_does() {
 
 #[test]
 fn the_library_undraws_as_the_model_does() {
-    agree_on_seeds(&[0, 2, 4, 5, 6, 7, 8, 9, 60, 61], |dice| {
+    agree_on_seeds(600, &[0, 2, 4, 5, 6, 7, 8, 9, 60, 61], |dice| {
         let text = sketches::text(dice);
         let compared = compare_undraw(&Model, &Library, &text, dice);
         (text, compared)

@@ -2,7 +2,7 @@
 //! tables, every lent byte; and a schedule runs the same on both. `EDITIONS=n` tries more than 10,000.
 
 use judge::compare::compare_moves;
-use judge::dice::{each_seed, seeds, Dice};
+use judge::dice::{each_seed, part_of, seeds, Dice};
 use judge::makers::bundles::case;
 use judge::makers::shelf::{any, whole};
 use judge::model::{read_table, Edition, Model};
@@ -41,7 +41,7 @@ fn agrees(seed: u64) -> Vec<(Edition, u8)> {
 
 #[test]
 fn the_library_agrees_with_the_model() {
-    let seeds = seeds("EDITIONS", 10_000);
+    let seeds = seeds("EDITIONS", part_of(10_000));
     let mut seen: BTreeMap<(&str, u8), usize> = BTreeMap::new();
     for (to, number) in each_seed(seeds, agrees).concat() {
         *seen.entry((to.name(), number)).or_default() += 1;
@@ -54,7 +54,7 @@ fn the_library_agrees_with_the_model() {
 
 #[test]
 fn there_and_back_are_the_same_bytes() {
-    each_seed(seeds("EDITIONS", 10_000), |seed| {
+    each_seed(seeds("EDITIONS", part_of(10_000)), |seed| {
         let dice = &mut Dice::new(seed);
         for (own, other) in [(Edition::First, Edition::Second), (Edition::Second, Edition::First)] {
             let table = whole(dice, own);
@@ -207,7 +207,7 @@ fn outcome(bundle: &[u8], standing: &[u8]) -> impl PartialEq + std::fmt::Debug {
 
 #[test]
 fn a_schedule_runs_the_same_on_both() {
-    let refusals = each_seed(seeds("EDITIONS", 10_000), |seed| {
+    let refusals = each_seed(seeds("EDITIONS", part_of(10_000)), |seed| {
         let (bundle, standing) = case(&mut Dice::new(seed));
         let (other, beside) = with_other_table(&bundle, &standing)?;
         assert_eq!(outcome(&bundle, &standing), outcome(&other, &beside), "seed {seed}: {bundle:02x?}");

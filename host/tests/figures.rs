@@ -7,16 +7,16 @@ mod table;
 use judge::fast::Fast;
 use judge::makers::bundles::closed;
 use judge::model::{read, report, Bundle, Coefficients, Model, Outline};
-use judge::{Bench, Library, Limits, Moves, Replays, Searches};
+use judge::{Bench, Checks, Library, Limits, Moves, Replays, Searches};
 use macaroosh::calls::{Answer, First, Step};
 use macaroosh::{Form, Refusal, ECHO, MOST_BYTES};
 use reporter::reported;
-use table::{case, cases, moves, Moved, Search};
+use table::{case, cases, moves, List, Moved, Search};
 
 // Whoever answers about bundles.
-trait Side: Bench + Searches {}
+trait Side: Bench + Searches + Checks {}
 
-impl<S: Bench + Searches> Side for S {}
+impl<S: Bench + Searches + Checks> Side for S {}
 
 const BENCHES: [(&str, &dyn Side); 3] = [("model", &Model), ("library", &Library), ("fast", &Fast)];
 
@@ -122,6 +122,9 @@ fn what_a_run_refuses_every_question_refuses() {
                 let (limits, mut tried) = (Limits { depth: 0, budget: 9 }, 9);
                 assert_eq!(bench.search(&bundle, standing, limits, &mut out, &mut tried), answer(searched), "{about}");
                 assert_eq!((out, tried), (untouched, 0), "{about}");
+                // A check looks at no step.
+                let checked = if refusal < 20 { (refusal, place, 0) } else { (70, 0, 0) };
+                assert_eq!(bench.check_list(&bundle, standing, &[]), answer(checked), "{about}");
             }
         }
     }
@@ -199,6 +202,21 @@ fn searches_end_as_the_table_says() {
 }
 
 #[test]
+fn lists_are_checked_as_the_table_says() {
+    let all = cases();
+    let of_cases = all.iter().flat_map(|case| case.lists.iter().map(move |list| (case, list)));
+    assert!(of_cases.clone().count() > 15, "the lines are not read");
+    for (case, List { answer, words }) in of_cases {
+        for (who, bench) in BENCHES {
+            for (bundle, standing) in case.beside(&case.bundle) {
+                let about = format!("{who}: {}, {} bytes, {words:?}", case.name, bundle.len());
+                assert_eq!(bench.check_list(&bundle, standing, words), *answer, "{about}");
+            }
+        }
+    }
+}
+
+#[test]
 fn tables_are_moved_as_the_table_says() {
     let movers: [(&str, &dyn Moves); 2] = [("model", &Model), ("library", &Library)];
     let all = moves();
@@ -223,11 +241,12 @@ fn tables_are_moved_as_the_table_says() {
 fn its_own_form_and_no_form_are_refused() {
     // A form is compared as a whole number: each of these has a form's in its lowest byte, or none.
     let none = [3, 4, 254, 255, 256, 257, 258, 1 << 16, 1 << 32, (1 << 32) + 1, (1 << 32) + 2, 1 << 63, u64::MAX];
-    for (who, bench) in BENCHES {
-        for (name, own) in [("W", 0), ("W in counting form", 1), ("W in plain form", 2)] {
+    for (name, own) in [("W", 0), ("W in counting form", 1), ("W in plain form", 2)] {
+        let bundle = case(name).bundle;
+        for (who, bench) in BENCHES {
             for form in none.into_iter().chain([own]) {
                 let mut out = [0xAA; 31];
-                let refused = bench.translate_to(&case(name).bundle, &ECHO, form, &mut out);
+                let refused = bench.translate_to(&bundle, &ECHO, form, &mut out);
                 assert_eq!((refused, out), (answer((31, 0, 0)), [0xAA; 31]), "{who}: {name} to {form}");
             }
         }

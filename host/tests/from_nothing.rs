@@ -1,7 +1,7 @@
 //! Q-5, "No echo from nothing": where every correct board starts in V0, which is state 0, no schedule of the echo table brings
 //! a board to another state or sends anything. With the table that asks for t echoes in place of t + 1, the same schedules do.
 
-use judge::dice::{each_seed, Dice};
+use judge::dice::{each_seed, part_of, Dice};
 use judge::makers::bundles::{closed, wild};
 use judge::model::{read, Bundle, Model};
 use judge::{Bench, Library};
@@ -13,7 +13,7 @@ use std::collections::BTreeSet;
 // The echo table whose rule 1 asks for t echoes.
 const ASKS_T: &[u8] = include_bytes!("../../examples/asks-t.table");
 
-// Each is a schedule in every form.
+// Each is a schedule in every form; some n, t and f are rare.
 const SEEDS: u64 = 1_000;
 
 // Each end of a range once in four times, and else any number in it.
@@ -131,7 +131,7 @@ fn outcome(bench: &dyn Bench, table: &[u8], seed: u64, form: Form) -> Outcome {
 
 fn outcomes(bench: &(dyn Bench + Sync), table: &[u8]) -> Vec<Outcome> {
     let of_seed = |seed| Form::ALL.map(|form| outcome(bench, table, seed, form));
-    each_seed(SEEDS, of_seed).into_iter().flatten().collect()
+    each_seed(part_of(SEEDS).max(400), of_seed).into_iter().flatten().collect()
 }
 
 fn nothing_comes_from_nothing(bench: &(dyn Bench + Sync)) {
@@ -142,7 +142,7 @@ fn nothing_comes_from_nothing(bench: &(dyn Bench + Sync)) {
     // In each form every odd seed's listener hears all faulty boards, of which there are some.
     let full = all.iter().filter(|o| o.f >= 1 && o.most >= o.f).count();
     println!("{} schedules, in {full} a board hears all faulty ones", all.len());
-    assert!(full >= Form::ALL.len() * SEEDS as usize / 2, "{full} of {}", all.len());
+    assert!(full >= all.len() / 2, "{full} of {}", all.len());
     // In each form schedules are accepted as a whole, and are refused for every reason.
     let seen: BTreeSet<(Form, u8)> = all.iter().map(|o| (o.form, o.answer.refusal)).collect();
     let every =

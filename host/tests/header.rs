@@ -3,7 +3,7 @@
 
 use macaroosh::calls::{NONE, SPENT};
 use macaroosh::terms::refusals;
-use macaroosh::{MOST_BYTES, MOST_DEPTH, MOST_DRAWING, MOST_TABLE, MOST_WORDS};
+use macaroosh::{MOST_BYTES, MOST_DEPTH, MOST_DRAWING, MOST_LISTED, MOST_LISTED_BOARDS, MOST_TABLE, MOST_WORDS};
 use std::collections::BTreeSet;
 
 const HEADER: &str = include_str!("../../crates/capi/macaroosh.h");
@@ -167,6 +167,8 @@ fn the_numbers_are_those_of_rust() {
         ("MOST_TABLE", MOST_TABLE),
         ("MOST_DRAWING", MOST_DRAWING),
         ("MOST_DEPTH", MOST_DEPTH as usize),
+        ("MOST_LISTED_BOARDS", MOST_LISTED_BOARDS),
+        ("MOST_LISTED", MOST_LISTED),
         ("NONE", NONE as usize),
         ("SPENT", SPENT as usize),
     ];

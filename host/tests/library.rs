@@ -2,7 +2,7 @@
 //! more than 20,000.
 
 use judge::compare::{compare, Alike};
-use judge::dice::{each_seed, seeds, Dice};
+use judge::dice::{each_seed, part_of, seeds, Dice};
 use judge::fast::Fast;
 use judge::makers::bundles::case;
 use judge::makers::cases::cases;
@@ -40,7 +40,7 @@ fn kind(bundle: &[u8], standing: &[u8], alike: &Alike) -> Option<String> {
 
 // Agrees with the model on every seed, and the seeds come to every refusal and every kind of first step.
 fn agrees_on_seeds(bench: &(dyn Bench + Sync)) {
-    let seeds = seeds("SEEDS", 20_000);
+    let seeds = seeds("SEEDS", part_of(20_000));
     let mut seen: BTreeMap<u8, usize> = BTreeMap::new();
     let mut kinds: BTreeMap<String, usize> = BTreeMap::new();
     for (refusals, kind) in each_seed(seeds, |seed| agrees(bench, seed)) {

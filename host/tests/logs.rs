@@ -2,7 +2,7 @@
 //! log over the bundle without its steps, which is the bundle again. `LOGS=n` tries more than 10,000.
 
 use judge::compare::compare_replay;
-use judge::dice::{each_seed, seeds, Dice};
+use judge::dice::{bytes_at, each_seed, each_seed_and, part_of, seeds, Dice};
 use judge::fast::Fast;
 use judge::logs::{can_be_said, log_of};
 use judge::makers::bundles::{in_message_form, without_steps};
@@ -23,10 +23,11 @@ const LOG: &str = include_str!("../../examples/w.log");
 
 // Agrees with the model on every seed, and the seeds come to every refusal and every kind of log.
 fn agrees_on_seeds(replayer: &(dyn Replays + Sync)) {
-    let seeds = seeds("LOGS", 10_000);
+    let seeds = seeds("LOGS", part_of(10_000));
     let mut seen: BTreeMap<u8, usize> = BTreeMap::new();
     let mut made: BTreeMap<&str, usize> = BTreeMap::new();
-    for (kind, refusals) in each_seed(seeds, |seed| agrees(replayer, seed)) {
+    // Refusals 6, 10 and 5 are rare.
+    for (kind, refusals) in each_seed_and(&[1_417, 1_895, 2_029], seeds, |seed| agrees(replayer, seed)) {
         *made.entry(kind).or_default() += 1;
         refusals.into_iter().for_each(|number| *seen.entry(number).or_default() += 1);
     }
@@ -34,8 +35,10 @@ fn agrees_on_seeds(replayer: &(dyn Replays + Sync)) {
     for kind in kinds() {
         assert!(made.contains_key(kind), "no log is {kind}: {made:?}");
     }
-    // 31 is of translations, 32 and 33 are of editions, 34 and 35 of searches, 40 is the report program's own, 60 and 61 are of drawings.
-    for line in refusals::ALL.iter().filter(|line| ![31, 32, 33, 34, 35, 40, 60, 61].contains(&line.number)) {
+    // 31 is of translations, 32 and 33 are of editions, 34 and 35 of searches, 40 is the report program's own, 60 and 61 are of
+    // drawings, those from 70 on of lists.
+    let of_logs = |number: u8| number < 60 && ![31, 32, 33, 34, 35, 40].contains(&number);
+    for line in refusals::ALL.iter().filter(|line| of_logs(line.number)) {
         assert!(seen.contains_key(&line.number), "no log was refused with {}: {seen:?}", line.number);
     }
     assert!(seen.contains_key(&0), "no log was accepted: {seen:?}");
@@ -90,7 +93,7 @@ fn there_and_back(bundle: &[u8], standing: &[u8]) -> Answer {
 
 #[test]
 fn a_bundle_comes_back_from_its_log() {
-    let back = each_seed(seeds("LOGS", 10_000), |seed| {
+    let back = each_seed(seeds("LOGS", part_of(10_000)), |seed| {
         let (bundle, standing) = in_message_form(&mut Dice::new(seed));
         let steps = read(&bundle, &standing).expect("a bundle that is read").steps;
         steps.into_iter().all(can_be_said).then(|| there_and_back(&bundle, &standing).refusal)
@@ -255,7 +258,7 @@ fn all_agree_on_every_change_of_one_byte() {
             let others = after.get(1..).unwrap_or(&[]);
             all_agree(before);
             all_agree(&[before, others].concat());
-            for byte in 0..=255 {
+            for byte in bytes_at(at) {
                 all_agree(&[before, &[byte], after].concat());
                 all_agree(&[before, &[byte], others].concat());
             }

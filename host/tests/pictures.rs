@@ -1,6 +1,6 @@
 //! Images of a table: each state and rule is in them once, thresholds are in words, and what Graphviz does wrong is told.
 
-use judge::dice::{each_seed, seeds, Dice};
+use judge::dice::{each_seed, part_of, seeds, Dice};
 use judge::drawings::Drawing;
 use judge::makers::sketches;
 use judge::model::{read_table, Coefficients, Rule, Table};
@@ -406,7 +406,7 @@ fn is_shown(table: &Table, svg: &str) {
 
 #[test]
 fn every_table_is_shown_whole_or_refused_as_its_drawing_is() {
-    let accepted = each_seed(seeds("PICTURES", 500), |seed| {
+    let accepted = each_seed(seeds("PICTURES", part_of(500)), |seed| {
         let bytes = sketches::table(&mut Dice::new(seed));
         let got = drawn(&["--svg"], &bytes);
         match read_table(&bytes) {

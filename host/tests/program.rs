@@ -2,7 +2,7 @@
 
 mod start;
 
-use judge::dice::Dice;
+use judge::dice::{part_of, Dice};
 use judge::drawings::Text;
 use judge::editions::EditionOutline;
 use judge::makers::bundles::any;
@@ -522,10 +522,12 @@ fn help_is_there() {
     for words in [vec!["--help"], vec!["help"], vec!["run", "-h"]] {
         let got = asked(&words);
         assert_eq!((got.status.code(), text(&got.stderr)), (Some(0), ""));
-        for command in ["translate FILE", "draw TABLE", "undraw DRAWING", "edition TABLE"] {
+        for command in
+            ["translate FILE", "draw TABLE", "undraw DRAWING", "edition TABLE", "check LIST --of FILE", "list FILE"]
+        {
             assert!(text(&got.stdout).contains(&format!("macaroosh {command}")));
         }
-        for option in ["--to FORM", "--to EDITION", "--into FOLDER"] {
+        for option in ["--to FORM", "--to EDITION", "--into FOLDER", "--of FILE"] {
             assert!(text(&got.stdout).contains(option));
         }
     }
@@ -552,8 +554,7 @@ fn wrong_words_are_told() {
     mistake(&["run"], "which bundle?");
     mistake(&["draw"], "which table?");
     mistake(&["undraw"], "which drawing?");
-    let all =
-        "which command: run, trace, first, translate, draw, undraw, unpack, pack, replay, log, edition or search?";
+    let all = "which command: run, trace, first, translate, draw, undraw, unpack, pack, replay, log, edition, search, check or list?";
     mistake(&["--plain"], all);
     mistake(&["run", "x", "y"], "one bundle at a time: 'y' is one word too many");
     mistake(&["draw", "x", "y"], "one table at a time: 'y' is one word too many");
@@ -696,7 +697,7 @@ fn a_closed_pipe_ends_quietly() {
 
 #[test]
 fn no_bundle_makes_it_stumble() {
-    for seed in 1..=100 {
+    for seed in 1..=part_of(100) {
         let bundle = any(&mut Dice::new(seed));
         let got = given(&["run", "--plain", "-"], &bundle);
         assert_eq!(text(&got.stdout), report(&bundle), "seed {seed}");
@@ -714,7 +715,7 @@ fn no_bundle_makes_it_stumble() {
 
 #[test]
 fn no_table_or_text_makes_it_stumble() {
-    for seed in 1..=100 {
+    for seed in 1..=part_of(100) {
         let (table, drawing) = (shelf::any(&mut Dice::new(seed)), sketches::text(&mut Dice::new(seed)));
         let cases: [(&[&str], &[u8], bool); 4] = [
             (&["draw"], &table, read_table(&table).is_err()),

@@ -1,9 +1,11 @@
 //! docs/PROOFS.md speaks of what is there: every name in a table stands in a file of its row, every file and every function that
 //! the page names exists, and the edits that it lists are those in the folders must-fail.
 
-use std::collections::BTreeSet;
+use std::cell::RefCell;
+use std::collections::{BTreeMap, BTreeSet};
 use std::fs;
 use std::path::{Path, PathBuf};
+use std::rc::Rc;
 
 const PAGE: &str = include_str!("../../docs/PROOFS.md");
 
@@ -82,11 +84,19 @@ fn files(folder: &Path, end: &str) -> Vec<PathBuf> {
     here.chain(folders.iter().flat_map(|folder| files(folder, end))).collect()
 }
 
+thread_local! {
+    // What was read, since each page with a slip asks for the same files.
+    static READ: RefCell<BTreeMap<PathBuf, Rc<str>>> = RefCell::default();
+}
+
 // A file without the lines that are comments.
-fn text(path: &PathBuf) -> String {
-    let whole = fs::read_to_string(path).unwrap_or_else(|error| panic!("{}: {error}", path.display()));
-    let code = whole.lines().filter(|line| !["--", "//"].iter().any(|mark| line.trim_start().starts_with(mark)));
-    code.collect::<Vec<&str>>().join("\n")
+fn text(path: &PathBuf) -> Rc<str> {
+    let read = || {
+        let whole = fs::read_to_string(path).unwrap_or_else(|error| panic!("{}: {error}", path.display()));
+        let code = whole.lines().filter(|line| !["--", "//"].iter().any(|mark| line.trim_start().starts_with(mark)));
+        Rc::from(code.collect::<Vec<&str>>().join("\n"))
+    };
+    READ.with(|all| all.borrow_mut().entry(path.clone()).or_insert_with(read).clone())
 }
 
 // The crate of a path of the page, as a folder.
@@ -116,16 +126,17 @@ fn has_word(text: &str, word: &str) -> bool {
 
 // Is a name declared with its type? Fields are, and the statements in proofs.
 fn declares(text: &str, name: &str) -> bool {
-    text.lines().any(|line| line.trim_start().starts_with(&format!("pub {name} :")))
+    let declared = format!("pub {name} :");
+    text.lines().any(|line| line.trim_start().starts_with(&declared))
 }
 
 // The words of names that are in none of these files. A field (`.field`) has to be declared there; a word that is no field may
 // also be the name of a statement in the proofs of the files' crates.
 fn missing(names: &[&str], paths: &[&str]) -> Vec<String> {
-    let texts: Vec<String> = paths.iter().filter_map(|path| found(path)).map(|path| text(&path)).collect();
+    let texts: Vec<Rc<str>> = paths.iter().filter_map(|path| found(path)).map(|path| text(&path)).collect();
     let owners: BTreeSet<PathBuf> = paths.iter().map(|path| crate_of(path)).collect();
     let proofs = owners.iter().flat_map(|owner| files(&owner.join("proofs"), ".antt"));
-    let proofs: Vec<String> = proofs.map(|path| text(&path)).collect();
+    let proofs: Vec<Rc<str>> = proofs.map(|path| text(&path)).collect();
     let words = names.iter().flat_map(|name| name.split_whitespace());
     let words = words.filter(|word| word.contains(char::is_alphanumeric));
     let lost = words.filter(|word| match word.strip_prefix('.') {
@@ -164,7 +175,7 @@ fn wrong_helpers(table: &Table) -> Vec<String> {
         let owners = items.iter().filter_map(|item| item.split_once("::")).map(|(owner, _)| crates().join(owner));
         let known: Vec<PathBuf> =
             owners.flat_map(|owner| [".rt", ".antt"].map(|end| files(&owner, end))).flatten().collect();
-        let known: Vec<String> = known.iter().map(text).collect();
+        let known: Vec<Rc<str>> = known.iter().map(text).collect();
         let plain = items.into_iter().filter(|item| !item.contains("::"));
         let lost = plain.filter(|item| !known.iter().any(|text| has_word(text, item)));
         lost.map(|item| format!("{item} is not in the crates of {}", row[0])).collect::<Vec<String>>()
@@ -175,12 +186,11 @@ fn wrong_helpers(table: &Table) -> Vec<String> {
 // ---- files, functions, edits
 // Files and folders that are not there, nor edits. A bare name is in the folder that was named last.
 fn wrong_paths(page: &str) -> Vec<String> {
-    let edits = edits();
+    let (all, edits) = (files(&crates(), ""), edits());
     let mut wrong = vec![];
     let mut last = root();
     for item in quoted(page).into_iter().filter(|item| is_path(item)) {
-        let folder =
-            item.ends_with('/') && files(&crates(), "").iter().any(|file| file.to_string_lossy().contains(item));
+        let folder = item.ends_with('/') && all.iter().any(|file| file.to_string_lossy().contains(item));
         if let Some(path) = found(item) {
             if item.contains('/') && path.is_file() {
                 last = path.parent().map_or(last, Path::to_path_buf);

@@ -1,7 +1,7 @@
 //! When a run has gone quiet: run and translation accept waits, and the first-step question passes them over. A wait is a
 //! step with no message whose rule has from = to.
 
-use judge::dice::{each_seed, Dice};
+use judge::dice::{each_seed, part_of, Dice};
 use judge::fast::Fast;
 use judge::makers::bundles::{case, closed, in_form, with};
 use judge::model::{read, Bundle, Model};
@@ -189,7 +189,7 @@ fn judged_by_run(bench: &dyn Bench, seed: u64) -> Option<(Form, bool, bool)> {
 
 fn agrees_with_its_own_run(bench: &(dyn Bench + Sync)) {
     let mut seen: BTreeMap<(Form, bool, bool), usize> = BTreeMap::new();
-    for kind in each_seed(6_000, |seed| judged_by_run(bench, seed)).into_iter().flatten() {
+    for kind in each_seed(part_of(6_000), |seed| judged_by_run(bench, seed)).into_iter().flatten() {
         *seen.entry(kind).or_default() += 1;
     }
     println!("(form, possible, waits before): {seen:?}");

@@ -2,6 +2,8 @@
 //! its picture of the echo table is the one that the program draws.
 
 use macaroosh::{first_step, run, ECHO};
+use std::fs;
+use std::os::unix::fs::symlink;
 use std::path::{Path, PathBuf};
 use std::process::{Command, Stdio};
 
@@ -39,21 +41,32 @@ fn blocks(page: &str) -> Vec<String> {
     blocks
 }
 
-// What a command of the program prints, standard error after standard output.
-fn printed(words: &str) -> String {
+// A folder where the examples are, and files that a command writes.
+fn room(name: &str) -> PathBuf {
+    let room = Path::new(env!("CARGO_TARGET_TMPDIR")).join("readme").join(name);
+    let _ = fs::remove_dir_all(&room);
+    fs::create_dir_all(&room).expect("a folder");
+    symlink(root().join("examples"), room.join("examples")).expect("a link");
+    room
+}
+
+// What a command of the program prints in a folder, standard error after standard output.
+fn printed(words: &str, room: &Path) -> String {
     let runner = std::env::var_os("MACAROOSH_RUNNER");
     let mut command = Command::new(runner.clone().unwrap_or_else(|| PROGRAM.into()));
-    command.args(runner.map(|_| PROGRAM)).args(words.split(' ')).current_dir(root()).stdin(Stdio::null());
+    command.args(runner.map(|_| PROGRAM)).args(words.split(' ')).current_dir(room).stdin(Stdio::null());
     let output = command.output().expect("the program starts");
     String::from_utf8([output.stdout, output.stderr].concat()).expect("text")
 }
 
 // The blocks in which a command does not print what stands under it, or that are of no known kind.
-fn wrong(page: &str) -> Vec<String> {
+fn wrong(page: &str, room: &Path) -> Vec<String> {
     let told = |block: &String| {
         let (first, rest) = block.split_once('\n').expect("a line");
         match first.strip_prefix("$ ./macaroosh ") {
-            Some(words) => (printed(words) != rest).then(|| format!("{first} prints:\n{}", printed(words))),
+            Some(words) => {
+                Some(printed(words, room)).filter(|got| got != rest).map(|got| format!("{first} prints:\n{got}"))
+            }
             None => (!OTHERS.iter().any(|other| first.starts_with(other))).then(|| format!("what is this: {first}")),
         }
     };
@@ -62,7 +75,7 @@ fn wrong(page: &str) -> Vec<String> {
 
 #[test]
 fn each_command_prints_what_is_shown() {
-    assert_eq!(wrong(PAGE), Vec::<String>::new());
+    assert_eq!(wrong(PAGE, &room("page")), Vec::<String>::new());
     let commands = blocks(PAGE).iter().filter(|block| block.starts_with("$ ")).count();
     assert!(commands >= 10, "the page is not read: {commands}");
 }
@@ -73,7 +86,7 @@ fn another_output_is_told() {
         [("    result 0 0 5", "    result 0 0 4"), ("         ^\n", "          ^\n"), ("    01 01 01", "    02 01 01")]
     {
         assert!(PAGE.contains(old), "there is no {old}");
-        assert_eq!(wrong(&PAGE.replacen(old, new, 1)).len(), 1, "{old}");
+        assert_eq!(wrong(&PAGE.replacen(old, new, 1), &room("another")).len(), 1, "{old}");
     }
 }
 
@@ -99,7 +112,7 @@ fn texts(image: &str) -> Vec<&str> {
 #[test]
 fn the_picture_is_the_programs() {
     let picture = std::fs::read_to_string(root().join("docs/echo.svg")).expect("a picture");
-    let image = printed("draw examples/echo.table --svg");
+    let image = printed("draw examples/echo.table --svg", &root());
     assert!(texts(&picture).len() > 10);
     assert_eq!(texts(&picture), texts(&image));
 }

@@ -3,7 +3,7 @@
 
 mod start;
 
-use judge::dice::{each_seed, Dice};
+use judge::dice::{each_seed, part_of, Dice};
 use judge::logs::{can_be_said, log_of};
 use judge::makers::bundles::{bundle, closed, without_steps};
 use judge::makers::logs::any;
@@ -297,16 +297,24 @@ fn begins_a_line(piece: &[u8]) -> bool {
     let mut rests = ends.iter().flat_map(|line| (0..line.len()).map(move |at| &line[at..]));
     rests.any(|rest| {
         let log = [piece, rest].concat();
-        let answer = replay(&bytes("w-empty.bundle"), &ECHO, &log, &mut [0; MOST_BYTES], &mut [0; MOST_WORDS]);
         // One line, so that a line feed among the bytes begins no other.
-        log.iter().filter(|&&byte| byte == b'\n').count() == 1 && answer.refusal != 50
+        log.iter().filter(|&&byte| byte == b'\n').count() == 1 && has_right_lines(&log)
     })
+}
+
+// Whether the library refuses a log for no line's shape.
+fn has_right_lines(log: &[u8]) -> bool {
+    replay(&bytes("w-empty.bundle"), &ECHO, log, &mut [0; MOST_BYTES], &mut [0; MOST_WORDS]).refusal != 50
 }
 
 #[test]
 fn the_mark_is_where_the_library_says_that_no_line_goes_on() {
-    let shapes = each_seed(600, |seed| {
+    let shapes = each_seed(part_of(600).max(300), |seed| {
         let log = any(&mut Dice::new(seed)).log;
+        // The later seeds are there for columns that are rare.
+        if seed > part_of(600) && has_right_lines(&log) {
+            return None;
+        }
         let got = replayed(&[], &log);
         let said = String::from_utf8_lossy(&got.stderr).into_owned();
         if !said.starts_with("refused 50 ") {
@@ -337,8 +345,7 @@ fn the_mark_is_where_the_library_says_that_no_line_goes_on() {
 
 // Whether the library takes these bytes and a line feed for a line.
 fn whole(line: &[u8]) -> bool {
-    let log = [line, b"\n"].concat();
-    replay(&bytes("w-empty.bundle"), &ECHO, &log, &mut [0; MOST_BYTES], &mut [0; MOST_WORDS]).refusal != 50
+    has_right_lines(&[line, b"\n"].concat())
 }
 
 #[test]
@@ -408,7 +415,7 @@ fn the_log_of_each_example_replays_to_the_same_bytes() {
 #[test]
 fn the_log_of_any_bundle_replays_to_the_same_bytes() {
     let room = room("seeds");
-    let kinds = each_seed(300, |seed| {
+    let kinds = each_seed(part_of(300), |seed| {
         let bundle = bundle(&mut Dice::new(seed));
         let form = Form::of_bundle(&bundle).expect("a form");
         let room = room.join(seed.to_string());
@@ -436,7 +443,7 @@ fn the_log_of_any_bundle_replays_to_the_same_bytes() {
         }
     });
     for form in Form::ALL {
-        assert!(kinds.iter().flatten().filter(|&&kind| kind == form).count() >= 30, "{}", form.name());
+        assert!(kinds.iter().flatten().filter(|&&kind| kind == form).count() as u64 >= part_of(30), "{}", form.name());
     }
 }
 
@@ -448,11 +455,12 @@ fn steps(bundle: &[u8]) -> Vec<Step> {
 fn traces_alike(room: &Path, made: &[u8], log: &str) {
     let empty = room.join("empty");
     let replay = |words: &[&str]| given(&[&["replay", name(&empty), "-"], words].concat(), log.as_bytes());
-    for style in &STYLES[..2] {
-        let (trace, got) = (given(&[&["trace", "-"], *style].concat(), made), replay(&[&["--trace"], *style].concat()));
+    let [people, whole] = [STYLES[0], STYLES[1]].map(|style| {
+        let (trace, got) = (given(&[&["trace", "-"], style].concat(), made), replay(&[&["--trace"], style].concat()));
         assert_eq!((got.status, text(&got.stdout)), (trace.status, text(&trace.stdout)));
-    }
-    let (whole, come) = (replay(&["--trace", "--plain"]), replay(&["--follow", "--plain"]));
+        got
+    });
+    let come = replay(&["--follow", "--plain"]);
     let (result, rows) = text(&whole.stdout).split_once('\n').expect("a line");
     assert_eq!((come.status, text(&come.stdout)), (whole.status, &*format!("{rows}{result}\n")));
     // For people the columns may be wider, and the sign is told before it is known whether it comes.
@@ -460,7 +468,7 @@ fn traces_alike(room: &Path, made: &[u8], log: &str) {
         let lines = text(&output.stdout).lines().map(|line| line.split_whitespace().collect::<Vec<_>>().join(" "));
         (lines.filter(|line| !line.starts_with("^ ")).collect::<Vec<String>>(), text(&output.stderr).to_string())
     };
-    assert_eq!(words(&replay(&["--follow"])), words(&replay(&["--trace"])));
+    assert_eq!(words(&replay(&["--follow"])), words(&people));
 }
 
 #[test]

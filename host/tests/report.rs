@@ -2,7 +2,7 @@
 
 mod reporter;
 
-use judge::dice::{each_seed, seeds, Dice};
+use judge::dice::{each_seed_and, part_of, seeds, Dice};
 use judge::makers::bundles::any;
 use judge::model::{read, report};
 use macaroosh::{Form, ECHO};
@@ -20,7 +20,9 @@ fn agrees(seed: u64) -> (String, Option<Form>) {
 
 #[test]
 fn the_report_program_agrees_with_the_model() {
-    let seen: BTreeSet<(String, Option<Form>)> = each_seed(seeds("REPORTS", 1_500), agrees).into_iter().collect();
+    // Refusals 22 and 24 are rare in plain form.
+    let seen: BTreeSet<(String, Option<Form>)> =
+        each_seed_and(&[400, 718], seeds("REPORTS", part_of(1_500)), agrees).into_iter().collect();
     for refusal in ["3", "4", "6", "10", "11", "12", "13", "14"] {
         assert!(seen.contains(&(refusal.to_string(), None)), "no bundle was refused with {refusal}: {seen:?}");
     }

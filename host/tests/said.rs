@@ -4,7 +4,7 @@
 mod reader;
 mod start;
 
-use judge::dice::Dice;
+use judge::dice::{part_of, Dice};
 use judge::drawings::{Drawing, Text};
 use judge::makers::{bundles, sketches};
 use judge::model::{read, read_table, Bundle, Configuration, Edition, Messages, Model, Outline};
@@ -140,7 +140,7 @@ fn any_step(dice: &mut Dice, bundle: &Bundle, number: u8) -> Step {
 #[test]
 fn a_refused_step_is_told_with_the_figures_of_the_model() {
     let mut seen = BTreeMap::new();
-    for seed in 1..=2_000 {
+    for seed in 1..=part_of(2_000).max(310) {
         let dice = &mut Dice::new(seed);
         // Those of 24 are of two kinds, of which one is rare.
         let number = [20, 21, 22, 23, 24, 24, 24, 25, 26, 27][seed as usize % 10];
@@ -163,7 +163,7 @@ fn a_refused_step_is_told_with_the_figures_of_the_model() {
     for (number, again) in kinds {
         for form in Form::ALL {
             let times = seen.get(&(number, again, form));
-            assert!(times >= Some(&5), "{number}, again {again}, {} form: {seen:?}", form.name());
+            assert!(times >= Some(&part_of(5)), "{number}, again {again}, {} form: {seen:?}", form.name());
         }
     }
 }
@@ -367,7 +367,9 @@ fn a_refused_schedule_is_told_with_its_figures() {
         let bytes = bundles::bundle(dice);
         let bytes = bundles::damaged(dice, bytes);
         let refusal = match read(&bytes, &ECHO) {
-            Err(refusal) if (11..=14).contains(&refusal.number) && seen.get(&refusal.number) < Some(&40) => refusal,
+            Err(refusal) if (11..=14).contains(&refusal.number) && seen.get(&refusal.number) < Some(&part_of(40)) => {
+                refusal
+            }
             _ => continue,
         };
         let (before, trailer) = bytes.split_at(bytes.len() - 8);
@@ -393,7 +395,7 @@ fn a_refused_schedule_is_told_with_its_figures() {
         assert_eq!(lines.len(), if refusal.number == 13 { 2 } else { 1 });
         *seen.entry(refusal.number).or_insert(0) += 1;
     }
-    assert!((11..=14).all(|number| seen.get(&number) >= Some(&5)), "{seen:?}");
+    assert!((11..=14).all(|number| seen.get(&number) >= Some(&part_of(5))), "{seen:?}");
 }
 
 // What is said to be asked for is each pair that is allowed and keeps one of the two distances; or there is none.
@@ -413,7 +415,9 @@ fn a_refused_table_is_told_with_its_figures() {
     for seed in 1..=2_000 {
         let table = bundles::faulty_table(&mut Dice::new(seed));
         let refusal = match read_table(&table) {
-            Err(refusal) if (2..=3).contains(&refusal.number) && seen.get(&refusal.number) < Some(&40) => refusal,
+            Err(refusal) if (2..=3).contains(&refusal.number) && seen.get(&refusal.number) < Some(&part_of(40)) => {
+                refusal
+            }
             _ => continue,
         };
         let (before, trailer) = table.split_at(table.len() - 8);
@@ -441,7 +445,7 @@ fn a_refused_table_is_told_with_its_figures() {
         }
         *seen.entry(refusal.number).or_insert(0) += 1;
     }
-    assert!((2..=3).all(|number| seen.get(&number) >= Some(&20)), "{seen:?}");
+    assert!((2..=3).all(|number| seen.get(&number) >= Some(&part_of(20))), "{seen:?}");
 }
 
 // An empty folder for a test.
@@ -456,7 +460,7 @@ fn room(name: &str) -> PathBuf {
 fn which_table_is_refused_is_said() {
     let path = room("which-table").join("standing");
     let mut seen = [0, 0];
-    for seed in 1..=600 {
+    for seed in 1..=part_of(600) {
         let (bundle, standing) = bundles::case(&mut Dice::new(seed));
         let refusal = match read(&bundle, &standing) {
             Err(refusal) if refusal.number <= 9 => refusal,
@@ -479,7 +483,7 @@ fn which_table_is_refused_is_said() {
             seen[1] += 1;
         }
     }
-    assert!(seen.iter().all(|&times| times >= 20), "{seen:?}");
+    assert!(seen.iter().all(|&times| times >= part_of(20)), "{seen:?}");
     // A bundle in place of the standing table.
     fs::write(&path, example("ready.bundle")).expect("a file");
     let got = given(&["run", "-", "--standing", path.to_str().expect("a name")], &example("w.bundle"));
@@ -500,7 +504,7 @@ fn last_line(words: &[&str], input: &[u8]) -> String {
 
 #[test]
 fn a_table_is_no_bundle_and_a_bundle_no_table_and_that_is_said() {
-    for seed in 1..=60 {
+    for seed in 1..=part_of(60) {
         let dice = &mut Dice::new(seed);
         let (table, bundle) = (bundles::table(dice), bundles::bundle(dice));
         let drawing = Model.text(&Drawing::of(&read_table(&table).expect("a table"))).into_bytes();
@@ -525,7 +529,7 @@ fn a_table_is_no_bundle_and_a_bundle_no_table_and_that_is_said() {
 
 #[test]
 fn what_is_nothing_else_is_not_said_to_be() {
-    for seed in 1..=200 {
+    for seed in 1..=part_of(200) {
         let dice = &mut Dice::new(seed);
         let inputs = [("run", bundles::any(dice)), ("draw", sketches::table(dice)), ("undraw", sketches::text(dice))];
         for (command, input) in inputs {
@@ -541,7 +545,7 @@ fn what_is_nothing_else_is_not_said_to_be() {
 #[test]
 fn the_table_of_a_bundle_is_drawn() {
     let mut with_table = 0;
-    for seed in 1..=60 {
+    for seed in 1..=part_of(60) {
         let bundle = bundles::bundle(&mut Dice::new(seed));
         let starts = usize::from(bundle[bundle.len() - 6]) + 256 * usize::from(bundle[bundle.len() - 5]);
         let front = &bundle[..bundle.len() - 8 - starts];
@@ -555,7 +559,7 @@ fn the_table_of_a_bundle_is_drawn() {
             with_table += 1;
         }
     }
-    assert!((10..60).contains(&with_table), "{with_table}");
+    assert!((part_of(10)..part_of(60)).contains(&with_table), "{with_table}");
     // What is not a bundle by its trailer, and a front that is no table.
     let got = given(&["draw", "--of", "-"], b"short");
     assert_eq!((got.status.code(), text(&got.stderr)), (Some(1), "refused 10: the bundle is under 8 bytes\n"));
@@ -592,7 +596,7 @@ fn step_lines(steps: &[Step]) -> String {
 #[test]
 fn all_possible_steps_are_those_of_the_model_and_begin_with_the_first() {
     let mut seen = BTreeMap::new();
-    for seed in 1..=400 {
+    for seed in 1..=part_of(400).max(120) {
         let bytes = bundles::bundle(&mut Dice::new(seed));
         let bundle = read(&bytes, &ECHO).expect("a bundle");
         let all = output(&["first", "--all", "--plain", "-"], &bytes);
@@ -609,7 +613,7 @@ fn all_possible_steps_are_those_of_the_model_and_begin_with_the_first() {
         }
     }
     for form in Form::ALL {
-        assert!(seen.get(&(form, 0)) >= Some(&2) && seen.get(&(form, 2)) >= Some(&5), "{seen:?}");
+        assert!(seen.get(&(form, 0)) >= Some(&part_of(2)) && seen.get(&(form, 2)) >= Some(&part_of(5)), "{seen:?}");
     }
 }
 
@@ -666,7 +670,7 @@ fn plain_trace(bytes: &[u8]) -> (String, Vec<String>) {
 #[test]
 fn a_part_of_a_trace_has_the_same_lines() {
     let mut shown = 0;
-    for seed in 1..=100 {
+    for seed in 1..=part_of(100) {
         let dice = &mut Dice::new(seed);
         let bytes = bundles::bundle(dice);
         let (head, steps) = plain_trace(&bytes);
@@ -693,7 +697,7 @@ fn a_part_of_a_trace_has_the_same_lines() {
             assert_eq!(output(&words, &bytes), head.clone() + &chosen.concat(), "seed {seed}: {words:?}");
         }
     }
-    assert!(shown > 1_000, "{shown}");
+    assert!(shown as u64 > part_of(1_000), "{shown}");
 }
 
 #[test]
@@ -757,7 +761,7 @@ fn as_first(json: &Json) -> String {
 #[test]
 fn json_has_the_numbers_of_plain() {
     let mut refused = BTreeMap::new();
-    for seed in 1..=150 {
+    for seed in 1..=part_of(150) {
         let bytes = bundles::any(&mut Dice::new(seed));
         let commands: [(&[&str], AsPlain); 5] = [
             (&["run"], as_run),
@@ -834,10 +838,10 @@ fn json_by_example() {
 fn wrong_words_are_told() {
     let mistakes: [(&[&str], &str); 14] = [
         (&["run", "x", "--json", "--plain"], "--plain and --json are two ways to give one answer; choose one"),
-        (&["translate", "x", "--json"], "--json is for run, trace, first, replay and search alone"),
-        (&["draw", "x", "--json"], "--json is for run, trace, first, replay and search alone"),
+        (&["translate", "x", "--json"], "--json is for run, trace, first, replay, search and check alone"),
+        (&["draw", "x", "--json"], "--json is for run, trace, first, replay, search and check alone"),
         (&["run", "x", "--all"], "--all is for first alone"),
-        (&["undraw", "x", "--of"], "--of is for draw alone"),
+        (&["undraw", "x", "--of"], "--of is for draw and check alone"),
         (&["draw", "--of", "x", "--standing", "y"], "--of draws a bundle's own table"),
         (&["run", "x", "--board", "1"], "--board and --from are for trace alone"),
         (&["first", "x", "--from", "1"], "--board and --from are for trace alone"),

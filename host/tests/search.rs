@@ -2,7 +2,7 @@
 //! every budget; the order of refusals; and what an outcome says of schedules. `SEARCHES=n` tries more than 10,000.
 
 use judge::compare::compare_search;
-use judge::dice::{each_seed, seeds, Dice};
+use judge::dice::{each_seed, part_of, seeds, Dice};
 use judge::fast::Fast;
 use judge::makers::bundles::{closed, with};
 use judge::makers::cases::{searches, SearchCase};
@@ -27,7 +27,8 @@ fn agrees(searcher: &dyn Searches, seed: u64) -> (&'static str, Vec<(u8, u32)>) 
 
 // Agrees with the model on every seed, and the seeds come to every kind, refusal and outcome.
 fn agrees_on_seeds(searcher: &(dyn Searches + Sync)) {
-    let seeds = seeds("SEARCHES", 10_000);
+    // Where it is emulated, as many as show every refusal.
+    let seeds = seeds("SEARCHES", part_of(part_of(10_000)).max(600));
     let mut made: BTreeMap<&str, usize> = BTreeMap::new();
     let (mut refused, mut outcomes): (BTreeMap<u8, usize>, BTreeMap<u32, usize>) = Default::default();
     for (kind, seen) in each_seed(seeds, |seed| agrees(searcher, seed)) {
@@ -266,6 +267,6 @@ fn means_what_it_says(seed: u64) -> Option<u32> {
 #[test]
 fn an_outcome_means_what_it_says() {
     let outcomes: BTreeSet<u32> =
-        each_seed(seeds("SEARCHES", 10_000), means_what_it_says).into_iter().flatten().collect();
+        each_seed(seeds("SEARCHES", part_of(10_000)), means_what_it_says).into_iter().flatten().collect();
     assert_eq!(outcomes, (0..=8).chain([NONE, SPENT]).collect());
 }

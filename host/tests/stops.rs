@@ -3,7 +3,7 @@
 
 mod start;
 
-use judge::dice::{each_seed, seeds, Dice};
+use judge::dice::{each_seed, part_of, seeds, Dice};
 use judge::fast::Fast;
 use judge::logs::log_of;
 use judge::makers::bundles::{self, closed, with, without_steps};
@@ -213,7 +213,7 @@ fn without_stops(seed: u64) -> [Vec<u8>; 2] {
 
 #[test]
 fn an_accepted_schedule_without_its_stops_comes_to_the_same() {
-    let stops = each_seed(seeds("STOPS", 6_000), |seed| {
+    let stops = each_seed(seeds("STOPS", part_of(6_000)), |seed| {
         let both = without_stops(seed);
         let [whole, fewer] = [&both[0], &both[1]].map(|bytes| read(bytes, &ECHO).expect("a bundle").steps.len());
         for (who, side) in SIDES {
@@ -233,7 +233,7 @@ fn an_accepted_schedule_without_its_stops_comes_to_the_same() {
     });
     for form in Form::ALL {
         let seen = stops.iter().filter(|(of, stops)| *of == form && *stops > 0).count();
-        assert!(seen > 100, "{seen} schedules with stops in {} form", form.name());
+        assert!(seen as u64 > part_of(100), "{seen} schedules with stops in {} form", form.name());
     }
 }
 

@@ -5,7 +5,7 @@
 
 mod start;
 
-use judge::dice::{each_seed, seeds, Dice};
+use judge::dice::{each, each_seed, part_of, seeds, Dice};
 use judge::makers::bundles;
 use judge::model::{read, Bundle, Configuration, Model, Outline};
 use judge::{Bench, Library};
@@ -130,7 +130,7 @@ fn kinds(listing: &Listing) -> Vec<(Form, &'static str)> {
 }
 
 // That each kind was there so often in each form.
-fn all_seen(kinds: Vec<Vec<(Form, &'static str)>>, times: usize) {
+fn all_seen(kinds: Vec<Vec<(Form, &'static str)>>, times: u64) {
     let mut seen = BTreeMap::new();
     kinds.into_iter().flatten().for_each(|kind| *seen.entry(kind).or_insert(0) += 1);
     for form in Form::ALL {
@@ -145,18 +145,18 @@ fn all_seen(kinds: Vec<Vec<(Form, &'static str)>>, times: usize) {
 
 #[test]
 fn exchanged_steps_of_two_boards_change_no_answer_or_are_refused_with_24() {
-    let all = each_seed(seeds("SWAPS", 6_000), |seed| {
+    let all = each_seed(seeds("SWAPS", part_of(6_000)), |seed| {
         let listing = Listing::seeded(seed);
         by_the_calls(&Library, &listing, &right(&listing)).unwrap_or_else(|wrong| panic!("seed {seed}: {wrong}"));
         kinds(&listing)
     });
-    all_seen(all, 200);
+    all_seen(all, part_of(200));
 }
 
 // In the forms of its translations the pairs are others: who sent a message is forgotten, or chosen.
 #[test]
 fn the_same_in_the_other_forms_of_a_bundle() {
-    let all = each_seed(seeds("SWAPS", 6_000) / 3, |seed| {
+    let all = each_seed(seeds("SWAPS", part_of(6_000)) / 3, |seed| {
         let bytes = bundles::bundle(&mut Dice::new(seed));
         if Model.run_steps(&read(&bytes, &ECHO).expect("a bundle")).1.is_some() {
             return Vec::new();
@@ -169,13 +169,13 @@ fn the_same_in_the_other_forms_of_a_bundle() {
         });
         seen.collect()
     });
-    all_seen(all, 100);
+    all_seen(all, part_of(100));
 }
 
 #[test]
 fn one_boards_own_steps_exchanged_are_refused_for_other_reasons_too() {
     let mut seen = BTreeMap::new();
-    for seed in 1..=2_000 {
+    for seed in 1..=part_of(2_000) {
         let listing = Listing::seeded(seed);
         let one_board = listing.pairs().filter(|(_, first, second)| first.board == second.board);
         for (line, _, _) in one_board {
@@ -186,7 +186,7 @@ fn one_boards_own_steps_exchanged_are_refused_for_other_reasons_too() {
         }
     }
     assert!(seen.keys().all(|number| [22, 24, 25].contains(number)), "{seen:?}");
-    assert!([22, 25].iter().all(|number| seen.get(number) >= Some(&10)), "{seen:?}");
+    assert!([22, 25].iter().all(|number| seen.get(number) >= Some(&part_of(10))), "{seen:?}");
 }
 
 // Both are accepted by themselves, and neither after the other.
@@ -240,19 +240,19 @@ fn told(words: &[&str], bytes: &[u8]) -> Vec<(usize, bool)> {
 
 #[test]
 fn a_trace_has_the_signs_of_the_model() {
-    let all = each_seed(400, |seed| {
+    let all = each_seed(part_of(400).max(64), |seed| {
         let listing = Listing::seeded(seed);
         let lines: Vec<(usize, bool)> = right(&listing).into_iter().enumerate().collect();
         assert_eq!(shown(&[], &listing.bytes), lines, "seed {seed}");
         assert_eq!(told(&["trace", "-"], &listing.bytes), lines, "seed {seed}");
         kinds(&listing)
     });
-    all_seen(all, 10);
+    all_seen(all, part_of(10));
 }
 
 #[test]
 fn in_a_part_of_a_trace_both_lines_must_be_shown() {
-    let all = each_seed(100, |seed| {
+    let all = each_seed(part_of(100), |seed| {
         let listing = Listing::seeded(seed);
         let signs = right(&listing);
         let dice = &mut Dice::new(seed);
@@ -279,9 +279,9 @@ fn in_a_part_of_a_trace_both_lines_must_be_shown() {
         parts
     });
     // Some of each were shown and left out; the lines of one board have no sign.
-    let seen = |part: usize, left_out: usize| all.iter().filter(|parts| parts[part][left_out]).count();
-    assert!((0..3).all(|part| seen(part, 0) >= 10), "shown");
-    assert!([0, 2, 3, 4].into_iter().all(|part| seen(part, 1) >= 10), "left out");
+    let seen = |part: usize, left_out: usize| all.iter().filter(|parts| parts[part][left_out]).count() as u64;
+    assert!((0..3).all(|part| seen(part, 0) >= part_of(10)), "shown");
+    assert!([0, 2, 3, 4].into_iter().all(|part| seen(part, 1) >= part_of(10)), "left out");
     assert_eq!((seen(1, 1), seen(3, 0), seen(4, 0)), (0, 0, 0));
 }
 
@@ -300,9 +300,11 @@ fn the_lines_of_plain_stay_and_found_steps_follow_those_of_the_schedule() {
 
 // ---- what would be wrong
 
-// The first seed whose listing shows it.
-fn caught(wrong: impl Fn(&Listing) -> bool) -> Option<u64> {
-    (1..=2_000).find(|&seed| wrong(&Listing::seeded(seed)))
+const SEEDS: u64 = 2_000;
+
+// The first seed whose listing shows it, of so many.
+fn caught(seeds: u64, wrong: impl Fn(&Listing) -> bool) -> Option<u64> {
+    (1..=seeds).find(|&seed| wrong(&Listing::seeded(seed)))
 }
 
 type Signs = fn(&Listing) -> Vec<bool>;
@@ -370,12 +372,12 @@ fn every_broken_sign_is_caught() {
         ("not where both stop", |l| also(l, |first, second| (first.rule, second.rule) != (STOP, STOP))),
         ("none in a schedule that is refused", |l| also(l, |_, _| l.reached.len() > l.bundle.steps.len())),
     ];
-    for (name, signs) in broken {
-        let by_model = caught(|listing| signs(listing) != right(listing));
-        let by_calls = caught(|listing| by_the_calls(&Library, listing, &signs(listing)).is_err());
+    each(&broken, |&(name, signs)| {
+        let by_model = caught(SEEDS, |listing| signs(listing) != right(listing));
+        let by_calls = caught(SEEDS, |listing| by_the_calls(&Library, listing, &signs(listing)).is_err());
         println!("{name}: seed {by_model:?}, by the calls {by_calls:?}");
         assert!(by_model.is_some() && by_calls.is_some(), "not caught: {name}");
-    }
+    });
 }
 
 // A board does not step twice in a row.
@@ -417,15 +419,16 @@ impl Outline for LastLost {
 
 #[test]
 fn every_bench_that_minds_the_order_is_caught() {
-    let broken: [(&str, &dyn Bench); 3] = [
+    let broken: [(&str, &(dyn Bench + Sync)); 3] = [
         ("no board steps twice in a row", &NotAgain),
         ("thresholds before transit", &ThresholdsFirst),
         ("the last step is lost", &LastLost),
     ];
-    for (name, bench) in broken {
-        let seed = caught(|listing| by_the_calls(bench, listing, &right(listing)).is_err());
+    each(&broken, |&(name, bench)| {
+        let seed = caught(SEEDS, |listing| by_the_calls(bench, listing, &right(listing)).is_err());
         println!("{name}: seed {seed:?}");
         assert!(seed.is_some(), "not caught: {name}");
-    }
-    assert_eq!(caught(|listing| by_the_calls(&Model, listing, &right(listing)).is_err()), None);
+    });
+    let sound = caught(part_of(SEEDS), |listing| by_the_calls(&Model, listing, &right(listing)).is_err());
+    assert_eq!(sound, None);
 }

@@ -3,7 +3,7 @@
 
 mod start;
 
-use judge::dice::{each_seed, seeds, Dice};
+use judge::dice::{each_seed, each_seed_and, part_of, seeds, Dice};
 use judge::makers::bundles::{bundle, case, closed};
 use judge::makers::sketches;
 use judge::model::read;
@@ -155,7 +155,8 @@ fn the_examples_are_read_back() {
 #[test]
 fn every_record_survives_in_every_form() {
     for form in Form::ALL {
-        for sixteenth in 0..16 {
+        // Where it is emulated, the lowest types and the highest.
+        for sixteenth in (0..16).filter(|sixteenth| u64::from(sixteenth % 15) < part_of(15)) {
             let record = |i: u32| Step::of([i as u8, (i / 7) as u8, (16 * sixteenth + i / 256) as u8, i as u8]);
             let steps: Vec<Step> = (0..4_096).map(record).collect();
             let bundle = closed(&[1, 0], &steps, 2, [2, 0, 0, form.number()]);
@@ -238,13 +239,14 @@ fn there_and_back(room: &Path, seed: u64) -> Result<(Form, bool, bool), u8> {
 #[test]
 fn unpacked_and_packed_is_the_same() {
     let room = room("texts-seeds");
-    let all = each_seed(seeds("TEXTS", 7_500), |seed| there_and_back(&room, seed));
+    // Refusals 11 and 10 are rare.
+    let all = each_seed_and(&[162, 448], seeds("TEXTS", part_of(part_of(7_500))), |seed| there_and_back(&room, seed));
     let mut read: BTreeMap<(Form, bool, bool), usize> = BTreeMap::new();
     for &kind in all.iter().flatten() {
         *read.entry(kind).or_default() += 1;
     }
-    assert!(read.values().sum::<usize>() >= 5_000, "{read:?}");
-    assert!(read.len() == 12 && read.values().all(|&count| count >= 100), "{read:?}");
+    assert!(3 * read.values().sum::<usize>() >= 2 * all.len(), "{read:?}");
+    assert!(read.len() == 12 && read.values().all(|&count| 75 * count >= all.len()), "{read:?}");
     let refused: BTreeSet<u8> = all.iter().filter_map(|kind| kind.err()).collect();
     assert!((1..=8).chain([10, 11, 12, 13, 14]).all(|number| refused.contains(&number)), "{refused:?}");
 }
@@ -279,13 +281,14 @@ fn edited(dice: &mut Dice, text: &str) -> String {
 
 #[test]
 fn an_edited_text_gives_the_same_bundle_and_the_same_text_again() {
-    each_seed(300, |seed| {
+    each_seed(part_of(300), |seed| {
         let dice = &mut Dice::new(seed);
         let bundle = bundle(dice);
         let text = unpacked(&bundle);
         let edited = edited(dice, &text);
-        assert_eq!(packed(&edited), bundle, "seed {seed}: {edited}");
-        assert_eq!(unpacked(&packed(&edited)), text, "seed {seed}");
+        let again = packed(&edited);
+        assert_eq!(again, bundle, "seed {seed}: {edited}");
+        assert_eq!(unpacked(&again), text, "seed {seed}");
     });
 }
 
@@ -712,7 +715,7 @@ fn random_line(dice: &mut Dice) -> Vec<u8> {
 
 #[test]
 fn no_text_makes_it_stumble() {
-    let statuses = each_seed(1_000, |seed| {
+    let statuses = each_seed(part_of(1_000).max(160), |seed| {
         let dice = &mut Dice::new(seed);
         let text = if dice.once_in(5) {
             (0..dice.below(12)).flat_map(|_| random_line(dice)).collect()
@@ -736,6 +739,6 @@ fn no_text_makes_it_stumble() {
         }
         status
     });
-    let of = |status| statuses.iter().filter(|&&one| one == Some(status)).count();
-    assert!(of(0) >= 30 && of(1) >= 500, "{} answered, {} refused", of(0), of(1));
+    let of = |status| statuses.iter().filter(|&&one| one == Some(status)).count() as u64;
+    assert!(of(0) >= part_of(30) && of(1) >= part_of(500), "{} answered, {} refused", of(0), of(1));
 }

@@ -1,9 +1,10 @@
-//! The calls at the crate's root against the exact numbers of `macaroosh::calls`, on seeded bundles, logs, searches, tables and texts:
+//! The calls at the crate's root against the exact numbers of `macaroosh::calls`, on seeded bundles, logs, searches, lists, tables and texts:
 //! number, place, count, words and bytes; their configurations against the model's report; steps against their records. `SEEDS=n`
 //! tries more than 3,000.
 
-use judge::dice::{each_seed, seeds, Dice};
+use judge::dice::{each_seed, part_of, seeds, Dice};
 use judge::makers::bundles::{any, case, without_steps};
+use judge::makers::lists;
 use judge::makers::logs::{self, Replay};
 use judge::makers::searches::{self, Search};
 use judge::makers::{shelf, sketches};
@@ -11,7 +12,7 @@ use judge::model::{read, report};
 use macaroosh::calls::{self, Answer, NONE, SPENT};
 use macaroosh::parts::Parts;
 use macaroosh::terms::refusals::{self, Place};
-use macaroosh::{draw, draw_into, first_step, replay, replay_into, run, run_into, search, search_into};
+use macaroosh::{check_list, draw, draw_into, first_step, replay, replay_into, run, run_into, search, search_into};
 use macaroosh::{to_first, to_first_into, to_second, to_second_into};
 use macaroosh::{translate, translate_into, undraw, undraw_into};
 use macaroosh::{Configuration, Form, Message, Outcome, Refusal, Refused, Replayed, Run, Searched, Sender, Step};
@@ -129,7 +130,7 @@ fn bundles_are_answered_as_by_the_raw_calls() {
         let refusals = [runs_alike(&bundle, &standing), translates_alike(&bundle, &standing)].concat();
         (refusals, first_alike(&bundle, &standing))
     };
-    let (refusals, firsts): (Vec<_>, Vec<_>) = each_seed(seeds("SEEDS", SEEDS), asked).into_iter().unzip();
+    let (refusals, firsts): (Vec<_>, Vec<_>) = each_seed(seeds("SEEDS", part_of(SEEDS)), asked).into_iter().unzip();
     let refusals: BTreeSet<u8> = refusals.concat().into_iter().collect();
     // 32 and 33 are of editions, 34 and 35 of searches, 40 is the report program's own, 60 and 61 are of drawings.
     for line in refusals::ALL.iter().filter(|line| line.number < 40 && !matches!(line.number, 32..=35)) {
@@ -175,7 +176,9 @@ fn logs_are_answered_as_by_the_raw_call() {
         let Replay { bundle, standing, log, .. } = logs::any(&mut Dice::new(seed));
         replays_alike(&bundle, &standing, &log)
     };
-    let refusals: BTreeSet<u8> = each_seed(seeds("SEEDS", SEEDS), asked).concat().into_iter().collect();
+    // Some refusals are rare.
+    let seeds = seeds("SEEDS", part_of(SEEDS).max(2_100));
+    let refusals: BTreeSet<u8> = each_seed(seeds, asked).concat().into_iter().collect();
     let expected: BTreeSet<u8> = (0..=14).chain(20..=27).chain([30, 50, 51, 52]).collect();
     assert_eq!(refusals, expected);
 }
@@ -218,10 +221,26 @@ fn searches_are_answered_as_by_the_raw_call() {
         let search = searches::any(dice);
         searches_alike(&search, dice.below(2_000) as u64)
     };
-    let seen: BTreeSet<(u8, u32)> = each_seed(seeds("SEEDS", SEEDS), asked).concat().into_iter().collect();
+    let seeds = seeds("SEEDS", part_of(SEEDS).max(1_200));
+    let seen: BTreeSet<(u8, u32)> = each_seed(seeds, asked).concat().into_iter().collect();
     let refusals = (1..=14).chain(20..=27).chain([30, 34, 35]).map(|number| (number, 0));
     let outcomes = (0..=8).chain([NONE, SPENT]).map(|outcome| (0, outcome));
     assert_eq!(seen, refusals.chain(outcomes).collect());
+}
+
+#[test]
+fn lists_are_answered_as_by_the_raw_call() {
+    let asked = |seed| {
+        let list = lists::any(&mut Dice::new(seed));
+        let answer = calls::check_list(&list.bundle, &list.standing, &list.words);
+        assert_eq!(check_list(&list.bundle, &list.standing, &list.words), said(answer), "seed {seed}");
+        answer.refusal
+    };
+    let refusals: BTreeSet<u8> = each_seed(seeds("SEEDS", SEEDS), asked).into_iter().collect();
+    assert_eq!(refusals, (0..=14).chain(70..=74).collect());
+    // Of a list that is no list no place is named, and of one out of order that of the later one.
+    let no_list = Refusal { number: 70, place: 0 };
+    assert_eq!(no_list.to_string(), format!("refused 70: {}", no_list.reason()));
 }
 
 #[test]
@@ -241,7 +260,7 @@ fn tables_and_texts_are_answered_as_by_the_raw_calls() {
         let of_undraw = lent_alike(exact, byte, |lent| undraw_into(&text, lent), |lent| calls::undraw(&text, lent));
         [of_draw, of_undraw].concat()
     };
-    let refusals: BTreeSet<u8> = each_seed(seeds("SEEDS", SEEDS), asked).concat().into_iter().collect();
+    let refusals: BTreeSet<u8> = each_seed(seeds("SEEDS", part_of(SEEDS)), asked).concat().into_iter().collect();
     let expected: BTreeSet<u8> = (0..=9).chain([60, 61]).collect();
     assert_eq!(refusals, expected);
 }
@@ -266,7 +285,7 @@ fn editions_are_answered_as_by_the_raw_calls() {
         let there = moves_alike(&table, to_second, to_second_into, calls::to_second);
         [there, moves_alike(&table, to_first, to_first_into, calls::to_first)].concat()
     };
-    let refusals: BTreeSet<u8> = each_seed(seeds("SEEDS", SEEDS), asked).concat().into_iter().collect();
+    let refusals: BTreeSet<u8> = each_seed(seeds("SEEDS", part_of(SEEDS)), asked).concat().into_iter().collect();
     let expected: BTreeSet<u8> = (0..=9).chain([30, 32, 33]).collect();
     assert_eq!(refusals, expected);
 }
@@ -306,7 +325,7 @@ fn configurations_say_what_the_model_reports() {
         assert_eq!(left.as_ref().map(lines).unwrap_or_default(), after_result, "seed {seed}");
         left.map(|left| left.form().number())
     };
-    let forms: BTreeSet<u8> = each_seed(seeds("SEEDS", SEEDS), asked).into_iter().flatten().collect();
+    let forms: BTreeSet<u8> = each_seed(seeds("SEEDS", part_of(SEEDS)), asked).into_iter().flatten().collect();
     assert_eq!(forms.len(), Form::ALL.len(), "a form did not come up: {forms:?}");
 }
 
@@ -336,6 +355,7 @@ fn refusals_display_number_place_and_reason() {
             Place::Step => " at step 7",
             Place::Byte => " at byte 7",
             Place::Line => " at line 7",
+            Place::Configuration => " at configuration 7",
         };
         let expected = format!("refused {}{place}: {}", line.number, line.when);
         let refused: Refused = Refused { refusal, before: None };

@@ -3,7 +3,7 @@
 //! measure/written.
 
 use judge::compare::compare;
-use judge::dice::{each_seed, seeds, Dice};
+use judge::dice::{each_seed, part_of, seeds, Dice};
 use judge::fast::Fast;
 use judge::makers::bundles::{bundle, closed, in_form};
 use judge::makers::growth::{growth, places};
@@ -58,7 +58,7 @@ fn changed(bench: &dyn Bench, bytes: &[u8], dice: &mut Dice) -> Result<Vec<usize
 
 // Changes what it should on every seed in each form, and the seeds come to every number of words in each.
 fn changes_what_it_should(bench: &(dyn Bench + Sync)) {
-    let seeds = seeds("SEEDS", 2_000);
+    let seeds = seeds("SEEDS", part_of(2_000));
     let mut seen: BTreeMap<(Form, usize), usize> = BTreeMap::new();
     let made = each_seed(seeds, |seed| {
         all_forms(seed).map(|(form, bytes)| {
@@ -164,12 +164,12 @@ fn one_word_more_is_caught() {
     ];
     for (name, bench) in broken {
         for form in Form::ALL {
-            let caught = (1..=500).find(|&seed| {
+            // Only counting form has two counts in a cell.
+            let expected = name != "writes both counts of a cell" || form == Form::Counting;
+            let caught = (1..=if expected { 500 } else { part_of(500) }).find(|&seed| {
                 let (_, bytes) = &all_forms(seed)[usize::from(form.number())];
                 changed(&bench, bytes, &mut Dice::new(seed)).is_err()
             });
-            // Only counting form has two counts in a cell.
-            let expected = name != "writes both counts of a cell" || form == Form::Counting;
             assert_eq!(caught.is_some(), expected, "{name}, {} form", form.name());
             println!("{name}, {} form: seed {caught:?}", form.name());
         }
@@ -179,7 +179,7 @@ fn one_word_more_is_caught() {
 #[test]
 fn no_word_more_is_not_caught() {
     let sound = WritesMore(|_, _, _| {});
-    for (seed, (_, bytes)) in (1..=200).flat_map(|seed| all_forms(seed).map(|made| (seed, made))) {
+    for (seed, (_, bytes)) in (1..=part_of(200)).flat_map(|seed| all_forms(seed).map(|made| (seed, made))) {
         assert!(changed(&sound, &bytes, &mut Dice::new(seed)).is_ok(), "seed {seed}");
     }
 }

@@ -1,7 +1,7 @@
 /* The header from C: schedule W is run in each form, translated there and back and to each form, and asked for its first step,
  * as is a run that is quiet; the echo table is drawn and read back, and moved to the second edition and back; W's log is replayed;
- * a table with divisors is used and drawn; schedules are searched for; a board stops; refusals leave lent memory alone. The last line
- * is 'N passed, M failed'. */
+ * a table with divisors is used and drawn; schedules are searched for; lists are checked; a board stops; refusals leave lent memory
+ * alone. The last line is 'N passed, M failed'. */
 #include "macaroosh.h"
 
 #include <stdio.h>
@@ -391,6 +391,44 @@ static uint64_t stops(uint8_t count, const char *last, uint8_t form) {
     return macaroosh_run(bundle, 12 + (size_t)steps, echo, sizeof echo, left, 10);
 }
 
+/* The configurations that boards without an echo to send come to, n = 4, t = f = 1: each has heard the faulty board or not. */
+static void listed(uint64_t *list, uint64_t many) {
+    uint64_t i, p;
+    for (i = 0; i < many; i++) {
+        for (p = 0; p < 11; p++) list[11 * i + p] = 0;
+        for (p = 0; p < 3; p++) list[11 * i + 4 + 2 * p] = i >> (2 - p) & 1;
+    }
+}
+
+static const uint8_t no_bubble[] = {0x00, 0x00, 0x00, 0x00, 0x00, 0x03, 0x00, 0x04, 0x01, 0x01, 0x01};
+
+/* Checks the first words of a list for that, beside a table. */
+static uint64_t checks(const uint8_t *table, const uint64_t *list, size_t length) {
+    return macaroosh_check_list(no_bubble, sizeof no_bubble, table, sizeof echo, list, length);
+}
+
+static void lists(void) {
+    uint64_t list[88], as_it_was[88];
+    uint8_t asks_t[sizeof echo];
+    listed(list, 8);
+    memcpy(as_it_was, list, sizeof list);
+    memcpy(asks_t, echo, sizeof echo);
+    asks_t[17] = 0;
+    check("a list is accepted", answers(checks(echo, list, 88), 0, 0, 8));
+    check("and stays as it was", memcmp(list, as_it_was, sizeof list) == 0);
+    check("a step leads outside of it", answers(checks(asks_t, list, 88), 73, 0, 0));
+    check("the last is missing", answers(checks(echo, list, 77), 73, 3, 0));
+    check("the start is missing", answers(checks(echo, list + 11, 77), 72, 0, 0));
+    check("a word is missing", answers(checks(echo, list, 87), 70, 0, 0));
+    check("no bundle without steps", answers(macaroosh_check_list(counting, sizeof counting, echo, sizeof echo, list, 88), 70, 0, 0));
+    list[77] = 3;
+    check("an accepting board", answers(checks(echo, list, 88), 73, 3, 0));
+    list[77] = 4;
+    check("no such state", answers(checks(echo, list, 88), 71, 7, 0));
+    memcpy(list + 77, list + 66, 11 * sizeof list[0]);
+    check("twice the same", answers(checks(echo, list, 88), 70, 7, 0));
+}
+
 static void stopped_boards(void) {
     static const char stop_0[] = "\x00\xFE\xFF\xFF", stop_1[] = "\x01\xFE\xFF\xFF";
     static const uint64_t sent[] = {2, 1, 1, 1, 0, 0, 0, 0, 1, 0}, after[] = {2, 1, 1, 1, 0, 0, 0, 0, 1, 1};
@@ -433,6 +471,8 @@ static void nothing_lent(void) {
     tried = 99;
     check("nowhere for what is found",
           answers(macaroosh_search(counting, sizeof counting, echo, sizeof echo, 1, 9, NULL, 0, &tried), 30, 0, 0) && tried == 0);
+    check("nothing to check", answers(macaroosh_check_list(NULL, 0, NULL, 0, NULL, 0), 10, 0, 0));
+    check("nothing listed", answers(macaroosh_check_list(no_bubble, sizeof no_bubble, echo, sizeof echo, NULL, 0), 72, 0, 0));
     check("nowhere to replay",
           answers(macaroosh_replay(without_steps, sizeof without_steps, echo, sizeof echo, NULL, 0, NULL, 0, NULL, 0), 30, 0, 0));
     check("nowhere for the table", answers(macaroosh_undraw((const uint8_t *)drawing, sizeof drawing - 1, NULL, 0), 61, 0, 0));
@@ -470,6 +510,7 @@ int main(void) {
     divisors();
     editions();
     searches();
+    lists();
     stopped_boards();
     refusals();
     nothing_lent();

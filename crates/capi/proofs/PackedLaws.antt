@@ -27,6 +27,8 @@ use Rattle.replay.proofs.BoundLaws.{ReplayWithin, replay-within}
 use Rattle.search.specs.declared.Searched.{Searched}
 use Rattle.search.specs.Entry.{searchAnswer}
 use Rattle.search.proofs.Bounds.{search-within}
+use Rattle.lists.specs.Entry.{listAnswer}
+use Rattle.lists.proofs.Bounds.{list-within}
 use Rattle.capi.specs.Packed.{packed, capped, outcomeAnswer, answerIn, Fits, packedFirst, firstIn, FirstFits, NothingLost}
 
 -- ---- read back
@@ -103,6 +105,9 @@ replay-fits b standing log bytes words = let W = replay-within b standing log by
 search-fits : (b standing : List ℕ) (depth budget lent : ℕ) → Fits (outcomeAnswer (searchAnswer b standing depth budget lent))
 search-fits b standing depth budget lent = let W = search-within b standing depth budget lent in record { refusal = omega (arith, W .refusal); place = omega (arith, W .place); count = omega (arith, W .outcome) }
 
+list-fits : (b standing l : List ℕ) → Fits (listAnswer b standing l)
+list-fits b standing l = let W = list-within b standing l in record { refusal = omega (arith, W .refusal); place = omega (arith, W .place); count = omega (arith, W .count) }
+
 within-first : (f : First) → FirstWithin f → FirstFits f
 within-first (First.Refused k p) (a, b, c) = (a, omega arith, omega arith)
 within-first First.Nothing h = tt
@@ -112,7 +117,7 @@ first-fits : (b standing : List ℕ) → FirstFits (firstAnswer b standing)
 first-fits b standing = within-first (firstAnswer b standing) (first-answer-within b standing)
 
 pub nothing-lost : NothingLost
-nothing-lost = record { answer-back = answer-back; first-back = first-back; run-fits = run-fits; translate-fits = translate-fits; draw-fits = draw-fits; undraw-fits = undraw-fits; undraw-whole = undraw-whole; to-second-fits = to-second-fits; to-first-fits = to-first-fits; replay-fits = replay-fits; search-fits = search-fits; first-fits = first-fits }
+nothing-lost = record { answer-back = answer-back; first-back = first-back; run-fits = run-fits; translate-fits = translate-fits; draw-fits = draw-fits; undraw-fits = undraw-fits; undraw-whole = undraw-whole; to-second-fits = to-second-fits; to-first-fits = to-first-fits; replay-fits = replay-fits; search-fits = search-fits; list-fits = list-fits; first-fits = first-fits }
 
 -- ---- the code, from what it has in hand
 pub packed-by : {x : ℕ} {a a′ : Answer} → a ≡ a′ → x ≡ packed a → x ≡ packed a′
@@ -126,6 +131,9 @@ translate-fits-by b standing k lent e = subst⁻¹ Fits e (translate-fits b stan
 
 pub replay-fits-by : {a : Answer} (b standing log : List ℕ) (bytes words : ℕ) → a ≡ replayAnswer b standing log bytes words → Fits a
 replay-fits-by b standing log bytes words e = subst⁻¹ Fits e (replay-fits b standing log bytes words)
+
+pub list-fits-by : {a : Answer} (b standing l : List ℕ) → a ≡ listAnswer b standing l → Fits a
+list-fits-by b standing l e = subst⁻¹ Fits e (list-fits b standing l)
 
 pub search-fits-by : {a : Searched} {c : Answer} (b standing : List ℕ) (depth budget lent : ℕ) → a ≡ searchAnswer b standing depth budget lent → c ≡ outcomeAnswer a → Fits c
 search-fits-by b standing depth budget lent e f = subst⁻¹ Fits (f ∙ ap outcomeAnswer e) (search-fits b standing depth budget lent)

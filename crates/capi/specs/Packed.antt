@@ -17,6 +17,7 @@ use Rattle.first_step.specs.Entry.{firstAnswer}
 use Rattle.replay.specs.Entry.{replayAnswer}
 use Rattle.search.specs.declared.Searched.{Searched}
 use Rattle.search.specs.Entry.{searchAnswer}
+use Rattle.lists.specs.Entry.{listAnswer}
 
 -- ---- an answer: the refusal in bits 0 to 7, the place in bits 8 to 31, the count in bits 32 to 63
 abbrev pub packed : Answer → ℕ
@@ -74,4 +75,5 @@ pub record NothingLost : Type 0 where
   pub to-first-fits : (s : List ℕ) (lent : ℕ) → Fits (toFirstAnswer s lent)
   pub replay-fits : (b standing log : List ℕ) (bytes words : ℕ) → Fits (replayAnswer b standing log bytes words)
   pub search-fits : (b standing : List ℕ) (depth budget lent : ℕ) → Fits (outcomeAnswer (searchAnswer b standing depth budget lent))
+  pub list-fits : (b standing l : List ℕ) → Fits (listAnswer b standing l)
   pub first-fits : (b standing : List ℕ) → FirstFits (firstAnswer b standing)

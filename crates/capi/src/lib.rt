@@ -10,6 +10,7 @@ ghost use Rattle.editions.specs.Entry.{toSecondAnswer, toSecondBytes, toFirstAn
 ghost use Rattle.first_step.specs.Entry.{firstAnswer};
 ghost use Rattle.replay.specs.Entry.{replayAnswer, replayBytes, replayWords};
 ghost use Rattle.search.specs.Entry.{searchAnswer, searchBytes};
+ghost use Rattle.lists.specs.Entry.{listAnswer};
 ghost use Rattle.capi.specs.Packed.{packed, capped, outcomeAnswer, Fits, packedFirst, FirstFits};
 use fault::Answer;
 use first_step::First;
@@ -129,6 +130,18 @@ pub extern "C" fn macaroosh_search<'a>(
     let a = search::search(bundle, standing, depth, budget, out);
     *tried = a.tried;
     pack(outcome_of(a))
+}
+
+// Checks a list of configurations for a bundle without steps: refusal, place, number of configurations.
+#[no_mangle]
+pub extern "C" fn macaroosh_check_list<'a>(
+    bundle: &'a [u8],
+    standing: &'a [u8],
+    list: &[u64],
+) -> u64
+    ensures { λ r. ⌜ r ≡ packed (listAnswer (now (bundle .entry)) (now (standing .entry)) (now (list .entry))) ⌝ }
+{
+    pack(lists::check_list(bundle, standing, list))
 }
 
 // A search's answer with its outcome as the count.

@@ -22,3 +22,5 @@ pub mod SearchForms
 pub mod Search
 pub mod Exchange
 pub mod Stops
+pub mod ListForms
+pub mod Lists

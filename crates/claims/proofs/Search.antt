@@ -30,7 +30,8 @@ use Rattle.engine.proofs.EntryLaws.{answer-place}
 use Rattle.translate.specs.Entry.{translationOf}
 use Rattle.translate.proofs.EntryLaws.{other-made}
 use Rattle.search.specs.declared.Searched.{Searched}
-use Rattle.search.specs.Walk.{accepts, Walked, found, none, spent, walk, never}
+use Rattle.accepting.specs.States.{accepts}
+use Rattle.search.specs.Walk.{Walked, found, none, spent, walk, never}
 use Rattle.search.specs.Found.{Reaches, Finds, First}
 use Rattle.search.specs.Entry.{mostDepth, outcomeOf, triedIn, leftIn, searchFault, searchedOf, searchAnswer, searchBytes}
 use Rattle.search.proofs.None.{IsNone, Found, none-reached, walk-found}

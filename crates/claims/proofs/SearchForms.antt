@@ -22,7 +22,7 @@ use Rattle.translate.specs.Written.{translationWith}
 use Rattle.translate.specs.Entry.{translationOf}
 use Rattle.translate.proofs.ReadLaws.{kept}
 use Rattle.translate.proofs.LoopLaws.{low-long}
-use Rattle.search.specs.Walk.{accepts}
+use Rattle.accepting.specs.States.{accepts}
 use Rattle.search.proofs.None.{some-same}
 use Rattle.search.specs.Found.{Reaches}
 use Rattle.claims.specs.Demand1.{Runs}

@@ -16,7 +16,7 @@ use Rattle.paper.specs.Order.{isWait}
 use Rattle.paper.proofs.OrderLaws.{message-waits}
 use Rattle.tries.specs.Tries.{each, ofType, silently, ofRule, ofBoard, allTries, In, here, there}
 use Rattle.search.specs.Found.{Reaches, First, last, step}
-use Rattle.search.proofs.Members.{in-right, tried}
+use Rattle.tries.proofs.TriedLaws.{in-right, tried}
 use Rattle.search.proofs.First.{nobody}
 use Rattle.search.proofs.None.{by-rule, first-accepted, rest-reaches, reaches-first}
 use Rattle.tries.proofs.PlaceLaws.{places-start}

@@ -14,3 +14,4 @@ pub mod Editions
 pub mod Search
 pub mod Exchange
 pub mod Stops
+pub mod Lists

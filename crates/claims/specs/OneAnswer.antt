@@ -11,6 +11,7 @@ use Rattle.translate.proofs.translate_to.Reads as translate-to
 use Rattle.first_step.proofs.first_step.Reads as first-step
 use Rattle.replay.proofs.replay.Reads as replay
 use Rattle.search.proofs.search.Reads as search
+use Rattle.lists.proofs.check_list.Reads as check-list
 use Rattle.drawing.proofs.draw.Reads as draw
 use Rattle.drawing.proofs.undraw.Reads as undraw
 use Rattle.editions.proofs.to_second.Reads as to-second
@@ -21,6 +22,7 @@ use Rattle.capi.proofs.macaroosh_translate_to.Reads as c-translate-to
 use Rattle.capi.proofs.macaroosh_first_step.Reads as c-first-step
 use Rattle.capi.proofs.macaroosh_replay.Reads as c-replay
 use Rattle.capi.proofs.macaroosh_search.Reads as c-search
+use Rattle.capi.proofs.macaroosh_check_list.Reads as c-check-list
 use Rattle.capi.proofs.macaroosh_draw.Reads as c-draw
 use Rattle.capi.proofs.macaroosh_undraw.Reads as c-undraw
 use Rattle.capi.proofs.macaroosh_to_second.Reads as c-to-second
@@ -30,7 +32,7 @@ use Rattle.capi.proofs.macaroosh_to_first.Reads as c-to-first
 abbrev pub Two : Type 0
 Two = RefT (List ℕ) × (RefT (List ℕ) × Unit {0})
 
--- three: a bundle, a standing table, and lent words or bytes
+-- three: a bundle, a standing table, and lent words or bytes, or a list of words that is only read
 abbrev pub Three : Type 0
 Three = RefT (List ℕ) × (RefT (List ℕ) × (RefT (List ℕ) × Unit {0}))
 
@@ -78,6 +80,9 @@ triedIn s = now (s .1 .1 .1 .1 .1 .0)
 abbrev pub One : {A R : Type 0} → (A → R → Two → Type 0) → Type 0
 One {A} {R} Post = (a : A) (r r′ : R) (s s′ : Two) → Post a r s → Post a r′ s′ → r ≡ r′
 
+abbrev pub OneListed : {A R : Type 0} → (A → R → Three → Type 0) → Type 0
+OneListed {A} {R} Post = (a : A) (r r′ : R) (s s′ : Three) → Post a r s → Post a r′ s′ → r ≡ r′
+
 abbrev pub OneLentTwo : {A R : Type 0} → (A → R → Two → Type 0) → Type 0
 OneLentTwo {A} {R} Post = (a : A) (r r′ : R) (s s′ : Two) → Post a r s → Post a r′ s′ → (r ≡ r′) × (second s ≡ second s′)
 
@@ -103,6 +108,7 @@ pub record OneAnswer : Type 0 where
   pub first-step : (κs : Lfts 1) → One (first-step.Post κs)
   pub replay : (κs : Lfts 4) → OneLogged (replay.Post κs)
   pub search : (κs : Lfts 2) → OneSought (search.Post κs)
+  pub check-list : (κs : Lfts 2) → OneListed (check-list.Post κs)
   pub draw : (κs : Lfts 2) → OneLentTwo (draw.Post κs)
   pub undraw : (κs : Lfts 2) → OneLentTwo (undraw.Post κs)
   pub to-second : (κs : Lfts 2) → OneLentTwo (to-second.Post κs)
@@ -113,6 +119,7 @@ pub record OneAnswer : Type 0 where
   pub c-first-step : (κs : Lfts 1) → One (c-first-step.Post κs)
   pub c-replay : (κs : Lfts 4) → OneLogged (c-replay.Post κs)
   pub c-search : (κs : Lfts 3) → OneCounted (c-search.Post κs)
+  pub c-check-list : (κs : Lfts 2) → OneListed (c-check-list.Post κs)
   pub c-draw : (κs : Lfts 2) → OneLentTwo (c-draw.Post κs)
   pub c-undraw : (κs : Lfts 2) → OneLentTwo (c-undraw.Post κs)
   pub c-to-second : (κs : Lfts 2) → OneLentTwo (c-to-second.Post κs)

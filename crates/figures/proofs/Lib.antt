@@ -6,3 +6,4 @@ pub mod Editions
 pub mod Searches
 pub mod Orders
 pub mod Stops
+pub mod Lists

@@ -18,7 +18,8 @@ use Rattle.paper.specs.Paper.{kindOf}
 use Rattle.paper.specs.Machine.{runBy}
 use Rattle.engine.specs.Entry.{ranWith}
 use Rattle.tries.specs.Tries.{each, ofRule, ofBoard, allTries}
-use Rattle.search.specs.Walk.{accepts, after, through, walk, searched}
+use Rattle.accepting.specs.States.{accepts}
+use Rattle.search.specs.Walk.{after, through, walk, searched}
 use Rattle.search.specs.Entry.{searchFault, searchedOf, searchAnswer, searchBytes}
 use Rattle.figures.specs.Case.{Every}
 use Rattle.figures.specs.Searches.{searching}

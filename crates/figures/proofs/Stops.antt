@@ -30,7 +30,8 @@ use Rattle.log.specs.Lines.{judged, faultFrom, taken, stepsFrom}
 use Rattle.replay.specs.Made.{raised, made}
 use Rattle.replay.specs.Entry.{notEmpty, noRoom, replayFault, replayAnswer, replayBytes, replayWords}
 use Rattle.tries.specs.Tries.{each, ofRule, ofBoard, allTries}
-use Rattle.search.specs.Walk.{accepts, after, through, walk, searched}
+use Rattle.accepting.specs.States.{accepts}
+use Rattle.search.specs.Walk.{after, through, walk, searched}
 use Rattle.search.specs.Entry.{searchFault, searchedOf, searchAnswer, searchBytes}
 use Rattle.figures.specs.Case.{Every}
 use Rattle.figures.specs.Stops.{stopping}

@@ -19,6 +19,7 @@ use Rattle.replay.specs.Entry.{replayAnswer, replayBytes, replayWords}
 use Rattle.drawing.specs.Entry.{drawAnswer, drawBytes, undrawAnswer, undrawBytes}
 use Rattle.editions.specs.Entry.{toSecondAnswer, toSecondBytes, toFirstAnswer, toFirstBytes}
 use Rattle.search.specs.Entry.{searchAnswer, searchBytes}
+use Rattle.lists.specs.Entry.{listAnswer}
 
 pub data Case : Type 0 where
   -- a, b, d and e at n and t come to the threshold z
@@ -48,6 +49,8 @@ pub data Case : Type 0 where
   -- a search from where a bundle's schedule ends, beside a standing table, so deep and with such a budget, answers refusal, place, outcome and number tried, and
   -- leaves these bytes in as many lent ones
   searches : List ℕ → List ℕ → ℕ → ℕ → ℕ → ℕ → ℕ → ℕ → List ℕ → Case
+  -- a check of a list of words for a bundle beside a standing table answers refusal, place and number of configurations
+  checks : List ℕ → List ℕ → List ℕ → ℕ → ℕ → ℕ → Case
 
 abbrev pub Holds : Case → Type 0
 Holds (comesTo w n t z) = thresholdOf w n t ≡ z
@@ -73,6 +76,7 @@ Holds (replays b standing log k p i bytes words) =
 Holds (judges n i log k p) = faultFrom n i log ≡ verdict k p
 Holds (searches b standing depth budget k p o n bytes) =
     (searchAnswer b standing depth budget (length bytes) ≡ record { refusal = k; place = p; outcome = o; tried = n }) × (searchBytes b standing depth budget (replicate (length bytes) 9) ≡ bytes)
+Holds (checks b standing l k p n) = listAnswer b standing l ≡ record { refusal = k; place = p; count = n }
 
 abbrev pub Every : List Case → Type 0
 Every [] = Unit {0}

@@ -49,6 +49,13 @@ pub trait Searches {
     fn search(&self, bundle: &[u8], standing: &[u8], limits: Limits, out: &mut [u8], tried: &mut u64) -> Answer;
 }
 
+/// Whoever checks lists of configurations: the library, the model, the fast version, or a broken variant of the model.
+pub trait Checks {
+    /// Whether the listed configurations, one after the other, show that no schedule of the bundle's table, n, t, f and starts
+    /// reaches an accepting state; the count is how many there are.
+    fn check_list(&self, bundle: &[u8], standing: &[u8], list: &[u64]) -> Answer;
+}
+
 /// Whoever moves tables to the other edition: the library, the model, or a broken variant of it.
 pub trait Moves {
     /// Writes a table part in that edition to the lent bytes.

@@ -1,10 +1,11 @@
-//! Two benches on one bundle, table, drawing, log or search: every answer, and every lent word and byte.
+//! Two benches on one bundle, table, drawing, log, search or list: every answer, and every lent word and byte.
 
-use crate::bench::{Bench, Draws, Limits, Moves, Replays, Searches};
+use crate::bench::{Bench, Checks, Draws, Limits, Moves, Replays, Searches};
 use crate::dice::Dice;
 use crate::drawings::{Drawing, Text};
 use crate::editions::EditionOutline;
 use crate::logs::LogOutline;
+use crate::makers::lists::List;
 use crate::makers::logs::Replay;
 use crate::makers::searches::Search;
 use crate::model::{read, read_table, Edition, Model};
@@ -164,6 +165,16 @@ pub fn compare_search(
         }
     }
     Ok(seen)
+}
+
+/// The same for a list, with the answer.
+pub fn compare_list(one: &dyn Checks, other: &dyn Checks, list: &List) -> Result<Answer, String> {
+    let asked = |who: &dyn Checks| who.check_list(&list.bundle, &list.standing, &list.words);
+    let (ours, theirs) = (asked(one), asked(other));
+    if ours != theirs {
+        return Err(format!("list of {} words: {ours:?} against {theirs:?}", list.words.len()));
+    }
+    Ok(ours)
 }
 
 // The most that is tried in one search.

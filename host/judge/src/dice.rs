@@ -1,16 +1,50 @@
 //! Numbers from a seed, and what is made of many seeds: the same for the same seed, on every machine.
 
+use std::iter::from_fn;
 use std::panic::resume_unwind;
+use std::sync::atomic::{AtomicUsize, Ordering};
 use std::thread;
+
+/// What is made of each of these, on all processors; the order is any.
+pub fn each<T: Sync, M: Send>(these: &[T], make: impl Fn(&T) -> M + Sync) -> Vec<M> {
+    let workers = thread::available_parallelism().map_or(1, |n| n.get());
+    // The next that no worker has taken yet, since some take much longer than others.
+    let next = AtomicUsize::new(0);
+    let share = || from_fn(|| these.get(next.fetch_add(1, Ordering::Relaxed))).map(&make).collect::<Vec<M>>();
+    thread::scope(|scope| {
+        let all: Vec<_> = (0..workers).map(|_| scope.spawn(share)).collect();
+        all.into_iter().flat_map(|worker| worker.join().unwrap_or_else(|cause| resume_unwind(cause))).collect()
+    })
+}
 
 /// What is made of each seed from 1 on, on all processors; the order is any.
 pub fn each_seed<T: Send>(seeds: u64, make: impl Fn(u64) -> T + Sync) -> Vec<T> {
-    let workers = thread::available_parallelism().map_or(1, |n| n.get() as u64);
-    let share = |worker| (1..=seeds).filter(|seed| seed % workers == worker).map(&make).collect::<Vec<T>>();
-    thread::scope(|scope| {
-        let all: Vec<_> = (0..workers).map(|worker| scope.spawn(move || share(worker))).collect();
-        all.into_iter().flat_map(|worker| worker.join().unwrap_or_else(|cause| resume_unwind(cause))).collect()
-    })
+    each_seed_and(&[], seeds, make)
+}
+
+/// The same, and of these seeds too, which show something rare: those past the others.
+pub fn each_seed_and<T: Send>(rare: &[u64], seeds: u64, make: impl Fn(u64) -> T + Sync) -> Vec<T> {
+    let past = rare.iter().copied().filter(|&seed| seed > seeds);
+    each(&(1..=seeds).chain(past).collect::<Vec<u64>>(), |&seed| make(seed))
+}
+
+/// One seed in so many is tried where the tests are emulated, since each takes some ten times as long there.
+const EMULATED: u64 = 8;
+
+// One in so many is tried.
+fn one_in() -> u64 {
+    std::env::var_os("MACAROOSH_RUNNER").map_or(1, |_| EMULATED)
+}
+
+/// So many seeds, or where the tests are emulated a part of them, rounded up; and so of what a test counts of them.
+pub fn part_of(seeds: u64) -> u64 {
+    (seeds + one_in() - 1) / one_in()
+}
+
+/// The bytes for a place, where a test tries every byte in every place: all, or where it is emulated others in each place.
+pub fn bytes_at(place: usize) -> impl Iterator<Item = u8> {
+    let step = one_in() as usize;
+    (0..=255).skip(place % step).step_by(step)
 }
 
 /// How many seeds a test tries: what the environment variable says, or so many.

@@ -1,5 +1,6 @@
 //! The same questions by hand, for speed: rules decoded once with their thresholds, sets in words, nothing allocated.
 
+mod list;
 mod log;
 mod search;
 

@@ -10,10 +10,11 @@ pub mod drawings;
 pub mod editions;
 pub mod fast;
 mod library;
+pub mod lists;
 pub mod logs;
 pub mod makers;
 pub mod model;
 pub mod searches;
 
-pub use bench::{Bench, Draws, Limits, Moves, Replays, Searches};
+pub use bench::{Bench, Checks, Draws, Limits, Moves, Replays, Searches};
 pub use library::Library;

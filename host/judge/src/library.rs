@@ -1,6 +1,6 @@
 //! The proved library among the benches.
 
-use crate::bench::{Bench, Draws, Limits, Moves, Replays, Searches};
+use crate::bench::{Bench, Checks, Draws, Limits, Moves, Replays, Searches};
 use crate::model::Edition;
 use macaroosh::calls::{self, Answer, First};
 
@@ -44,6 +44,12 @@ impl Replays for Library {
 impl Searches for Library {
     fn search(&self, bundle: &[u8], standing: &[u8], limits: Limits, out: &mut [u8], tried: &mut u64) -> Answer {
         calls::search(bundle, standing, limits.depth, limits.budget, out, tried)
+    }
+}
+
+impl Checks for Library {
+    fn check_list(&self, bundle: &[u8], standing: &[u8], list: &[u64]) -> Answer {
+        calls::check_list(bundle, standing, list)
     }
 }
 

@@ -10,7 +10,7 @@ pub struct Answer {
     pub refusal: u8,
     /// Its place; 0 where none is named.
     pub place: u32,
-    /// Steps accepted, or bytes written, or what a search came to.
+    /// Steps accepted, or bytes written, or what a search came to, or configurations listed.
     pub count: u32,
 }
 

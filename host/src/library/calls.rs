@@ -66,6 +66,15 @@ pub fn search(bundle: &[u8], standing: &[u8], depth: u64, budget: u64, out: &mut
     unpacked(ffi::search(bundle, standing, depth, budget, out, tried))
 }
 
+/// Checks a list of configurations, one after the other as a run leaves them in counting form, sorted strictly upward by words, the
+/// first being the most significant. It is accepted where the start of the bundle, which has no steps, is listed, every possible step
+/// but a stop leads from a listed configuration to a listed one, and no listed board is in an accepting state; the count of the answer
+/// is how many there are, and 0 with any refusal.
+#[inline]
+pub fn check_list(bundle: &[u8], standing: &[u8], list: &[u64]) -> Answer {
+    unpacked(ffi::check_list(bundle, standing, list))
+}
+
 /// Writes a first-edition table part in the second edition, with e = 1 for every rule and type; `MOST_TABLE` bytes are enough.
 #[inline]
 pub fn to_second(table: &[u8], out: &mut [u8]) -> Answer {

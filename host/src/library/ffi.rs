@@ -60,6 +60,14 @@ mod capi {
             out_length: usize,
             tried: *mut u64,
         ) -> u64;
+        pub fn macaroosh_check_list(
+            bundle: *const u8,
+            bundle_length: usize,
+            standing: *const u8,
+            standing_length: usize,
+            list: *const u64,
+            list_length: usize,
+        ) -> u64;
         pub fn macaroosh_to_second(table: *const u8, table_length: usize, out: *mut u8, out_length: usize) -> u64;
         pub fn macaroosh_to_first(table: *const u8, table_length: usize, out: *mut u8, out_length: usize) -> u64;
     }
@@ -170,6 +178,22 @@ pub fn search(bundle: &[u8], standing: &[u8], depth: u64, budget: u64, out: &mut
             out.as_mut_ptr(),
             out.len(),
             tried,
+        )
+    }
+}
+
+/// The packed answer of a list's check.
+#[inline]
+pub fn check_list(bundle: &[u8], standing: &[u8], list: &[u64]) -> u64 {
+    // SAFETY: as above.
+    unsafe {
+        capi::macaroosh_check_list(
+            bundle.as_ptr(),
+            bundle.len(),
+            standing.as_ptr(),
+            standing.len(),
+            list.as_ptr(),
+            list.len(),
         )
     }
 }

@@ -109,6 +109,11 @@ impl<'a> Parts<'a> {
         Some((*record.first()?, *record.get(1)?))
     }
 
+    /// How many states the table in use has.
+    pub fn states(&self) -> usize {
+        self.states.len() / 2
+    }
+
     /// How many rules the table in use has.
     pub fn rules(&self) -> usize {
         self.rules.len() / self.layout.rule_size()

@@ -7,7 +7,7 @@ use crate::show::Style;
 use crate::words::Words;
 use macaroosh::terms::rules::Edition;
 use macaroosh::Form;
-use std::collections::BTreeSet;
+use std::collections::{BTreeSet, VecDeque};
 use std::ffi::{OsStr, OsString};
 use std::path::PathBuf;
 use std::str::FromStr;
@@ -42,7 +42,7 @@ pub struct Shelf {
     pub style: Style,
 }
 
-/// One question about one bundle, table, drawing or text, or about a bundle and a log.
+/// One question about one bundle, table, drawing or text, or about a bundle and a log or a list.
 #[derive(Debug)]
 pub struct Request {
     /// The question.
@@ -51,6 +51,8 @@ pub struct Request {
     pub input: Input,
     /// Where the log is read that a replay is asked of.
     pub log: Option<Input>,
+    /// Where the list is read that a check is asked of.
+    pub list: Option<Input>,
     /// Where the standing table is read, if it is not the echo table.
     pub standing: Option<Input>,
     /// Where the output is written, if not to standard output (`-`).
@@ -76,6 +78,10 @@ pub enum Command {
     Trace(Part),
     /// The first steps after the schedule that put a board in an accepting state.
     Search(Limits),
+    /// Whether a list shows that no schedule of the bundle's start accepts.
+    Check,
+    /// The list of what is reached from there.
+    List,
     /// The drawing of a table, or an image of it.
     Draw(Option<Image>),
     /// The same of a bundle's own table.
@@ -129,7 +135,9 @@ impl Command {
     /// Whether its output is bytes that are no text.
     pub fn writes_bytes(self) -> bool {
         let image = matches!(self, Command::Draw(Some(Image::Png)) | Command::DrawOf(Some(Image::Png)));
-        image || matches!(self, Command::Translate(_) | Command::Undraw | Command::Pack | Command::Edition(_))
+        image
+            || matches!(self, Command::Translate(_) | Command::Undraw | Command::Pack | Command::Edition(_))
+            || matches!(self, Command::List)
     }
 }
 
@@ -165,7 +173,8 @@ impl Input {
     }
 }
 
-const COMMANDS: &str = "run, trace, first, translate, draw, undraw, unpack, pack, replay, log, edition, search";
+const COMMANDS: &str =
+    "run, trace, first, translate, draw, undraw, unpack, pack, replay, log, edition, search, check, list";
 const OPTIONS: &str = "--standing, -o, --to, --svg, --png, --of, --all, --board, --from, --trace, --follow, --into, \
                        --replace, --depth, --budget, --plain, --json, --partial, --help, --version";
 
@@ -177,17 +186,21 @@ struct Special {
     board: Option<usize>,
     from: Option<usize>,
     all: bool,
-    of: bool,
+    // How many words that are no options stand before it.
+    of: Option<usize>,
     trace: bool,
     follow: bool,
     depth: Option<u64>,
     budget: Option<u64>,
 }
 
+// The words that are no options, the command first.
+type Free = VecDeque<OsString>;
+
 /// Reads the words, or says what is wrong with them. Options may stand anywhere; after `--` there are none.
 pub fn parse(words: impl Iterator<Item = OsString>) -> Result<Asked, String> {
     let mut words = Words::of(words);
-    let mut free: Vec<OsString> = Vec::new();
+    let mut free = Free::new();
     let (mut standing, mut output, mut into, mut special) = (None, None, None, Special::default());
     let (mut plain, mut json, mut partial, mut replace) = (false, false, false, false);
     let (mut options_end, mut any) = (false, false);
@@ -195,7 +208,7 @@ pub fn parse(words: impl Iterator<Item = OsString>) -> Result<Asked, String> {
         any = true;
         // A word that is no text is no option, so it is taken as it is.
         match word.to_str().unwrap_or("") {
-            text if options_end || !text.starts_with('-') || text == "-" => free.push(word),
+            text if options_end || !text.starts_with('-') || text == "-" => free.push_back(word),
             "--" => options_end = true,
             "--help" | "-h" => return Ok(Asked::Help),
             "--version" => return Ok(Asked::Version),
@@ -203,7 +216,10 @@ pub fn parse(words: impl Iterator<Item = OsString>) -> Result<Asked, String> {
             "--partial" => partial = true,
             "--json" => json = true,
             "--all" => special.all = true,
-            "--of" => special.of = true,
+            "--of" => {
+                once(&mut special.of, free.len(), "--of")?;
+                free.extend(words.attached());
+            }
             "--trace" => special.trace = true,
             "--follow" => special.follow = true,
             "--replace" => replace = true,
@@ -225,14 +241,13 @@ pub fn parse(words: impl Iterator<Item = OsString>) -> Result<Asked, String> {
     if !any {
         return Ok(Asked::Nothing);
     }
-    let mut free = free.into_iter();
-    let command = match free.next() {
+    let command = match free.pop_front() {
         None => {
-            let all = "run, trace, first, translate, draw, undraw, unpack, pack, replay, log, edition or search";
+            let all = COMMANDS.replace(", list", " or list");
             return Err(format!("which command: {all}?"));
         }
         Some(word) if word == "help" => return Ok(Asked::Help),
-        Some(word) => command(&word, special)?,
+        Some(word) => command(&word, &special)?,
     };
     options_fit(command, partial, standing.is_some())?;
     let style = style(command, plain, json)?;
@@ -242,29 +257,35 @@ pub fn parse(words: impl Iterator<Item = OsString>) -> Result<Asked, String> {
             Command::Edition(to) => to,
             _ => return Err("--into is for edition alone".to_string()),
         };
-        return Ok(Asked::Move(Shelf { to, tables: tables(free)?, folder, replace, style }));
+        return Ok(Asked::Move(Shelf { to, tables: tables(free.into_iter())?, folder, replace, style }));
     }
     if replace {
         return Err("--replace is for --into alone; the file of -o is replaced anyway".to_string());
     }
-    let what = command.reads();
+    let of = if matches!(command, Command::Check) { Some(take_bundle(&mut free, special.of)?) } else { None };
+    let what = if of.is_some() { "list" } else { command.reads() };
     let mut input = |what: &str| {
-        let word = free.next().ok_or_else(|| format!("which {what}? Name a file, or '-' for standard input"));
+        let word = free.pop_front().ok_or_else(|| format!("which {what}? Name a file, or '-' for standard input"));
         word.map(Input::of)
     };
     let (input, log) = (input(what)?, command.reads_log().then(|| input("log")).transpose()?);
-    if let Some(word) = free.next() {
+    if let Some(word) = free.pop_front() {
         let log = if log.is_some() { " and one log" } else { "" };
         let several = if matches!(command, Command::Edition(_)) { "; --into FOLDER takes several" } else { "" };
         return Err(format!("one {what}{log} at a time: '{}' is one word too many{several}", shown(&word)));
     }
-    one_from_standard_input(&[(what, Some(&input)), ("log", log.as_ref()), ("standing table", standing.as_ref())])?;
+    let beside = [("log", log.as_ref()), ("bundle", of.as_ref()), ("standing table", standing.as_ref())];
+    one_from_standard_input(&[&[(what, Some(&input))], &beside[..]].concat())?;
     if command.keeps_bundle() && output.as_ref().map_or(false, |word| word == "-") {
         let what = if command.reads_log() { "replay" } else { "search" };
         return Err(format!("what a {what} shows goes to standard output, and -o keeps its bundle; name a file"));
     }
     let output = output.filter(|word| word != "-").map(PathBuf::from);
-    Ok(Asked::Answer(Request { command, input, log, standing, output, partial, style }))
+    let (input, list) = match of {
+        Some(bundle) => (bundle, Some(input)),
+        None => (input, None),
+    };
+    Ok(Asked::Answer(Request { command, input, log, list, standing, output, partial, style }))
 }
 
 // Whether options that several commands have are for this one.
@@ -279,6 +300,13 @@ fn options_fit(command: Command, partial: bool, standing: bool) -> Result<(), St
         return Err(format!("--standing is for bundles; this command reads a {} alone", command.reads()));
     }
     Ok(())
+}
+
+// The bundle that a list is of: the word after --of, which was met after so many words with the command.
+fn take_bundle(free: &mut Free, of: Option<usize>) -> Result<Input, String> {
+    let of = of.ok_or("of which bundle? As 'check LIST --of BUNDLE'")?;
+    let bundle = of.checked_sub(1).and_then(|at| free.remove(at)).filter(|word| !word.is_empty());
+    bundle.map(Input::of).ok_or_else(|| "--of needs a bundle after it".to_string())
 }
 
 // The tables of a shelf, each with a name of its own.
@@ -313,12 +341,12 @@ fn one_from_standard_input(inputs: &[(&str, Option<&Input>)]) -> Result<(), Stri
     }
 }
 
-fn command(word: &OsStr, special: Special) -> Result<Command, String> {
-    let Special { to, image, board, from, all, of, trace, follow, depth, budget } = special;
-    let asked_to = to.is_some();
+fn command(word: &OsStr, special: &Special) -> Result<Command, String> {
+    let Special { ref to, image, board, from, all, of, trace, follow, depth, budget } = *special;
+    let (to, of) = (to.as_deref(), of.is_some());
     let command = match word.to_str() {
         Some("run") => Command::Run,
-        Some("translate") => Command::Translate(to.map(|word| form(&word)).transpose()?),
+        Some("translate") => Command::Translate(to.map(form).transpose()?),
         Some("first") if all => Command::All,
         Some("first") => Command::First,
         Some("trace") => Command::Trace(part(board, from, to)?),
@@ -332,7 +360,9 @@ fn command(word: &OsStr, special: Special) -> Result<Command, String> {
         Some("replay") => Command::Replay(Rows::None),
         Some("log") => Command::Log,
         Some("search") => Command::Search(limits(depth, budget)?),
-        Some("edition") => Command::Edition(edition(to.as_deref())?),
+        Some("check") => Command::Check,
+        Some("list") => Command::List,
+        Some("edition") => Command::Edition(edition(to)?),
         _ => {
             let word = shown(word);
             return Err(format!("there is no command '{word}'; the commands are {COMMANDS}"));
@@ -341,13 +371,13 @@ fn command(word: &OsStr, special: Special) -> Result<Command, String> {
     if image.is_some() && !matches!(command, Command::Draw(_) | Command::DrawOf(_)) {
         return Err("--svg and --png are for draw alone".to_string());
     }
-    if of && !matches!(command, Command::DrawOf(_)) {
-        return Err("--of is for draw alone".to_string());
+    if of && !matches!(command, Command::DrawOf(_) | Command::Check) {
+        return Err("--of is for draw and check alone".to_string());
     }
     if all && !matches!(command, Command::All) {
         return Err("--all is for first alone".to_string());
     }
-    if asked_to && !matches!(command, Command::Translate(_) | Command::Trace(_) | Command::Edition(_)) {
+    if to.is_some() && !matches!(command, Command::Translate(_) | Command::Trace(_) | Command::Edition(_)) {
         return Err("--to is for translate, trace and edition alone".to_string());
     }
     if (board.is_some() || from.is_some()) && !matches!(command, Command::Trace(_)) {
@@ -363,8 +393,8 @@ fn command(word: &OsStr, special: Special) -> Result<Command, String> {
 }
 
 // The steps that a trace is asked for.
-fn part(board: Option<usize>, from: Option<usize>, to: Option<OsString>) -> Result<Part, String> {
-    let to = to.map(|word| place(&word)).transpose()?;
+fn part(board: Option<usize>, from: Option<usize>, to: Option<&OsStr>) -> Result<Part, String> {
+    let to = to.map(place).transpose()?;
     match (from, to) {
         (Some(first), Some(last)) if first > last => Err(format!("--from {first} is after --to {last}")),
         _ => Ok(Part { board, from, to }),
@@ -386,8 +416,8 @@ fn style(command: Command, plain: bool, json: bool) -> Result<Style, String> {
                 .to_string())
         }
         (_, true, Command::Run | Command::Trace(_) | Command::First | Command::All) => Ok(Style::Json),
-        (_, true, Command::Replay(_) | Command::Search(_)) => Ok(Style::Json),
-        (_, true, _) => Err("--json is for run, trace, first, replay and search alone".to_string()),
+        (_, true, Command::Replay(_) | Command::Search(_) | Command::Check) => Ok(Style::Json),
+        (_, true, _) => Err("--json is for run, trace, first, replay, search and check alone".to_string()),
         (true, false, _) => Ok(Style::Plain),
         (false, false, _) => Ok(Style::People),
     }

@@ -1,5 +1,6 @@
 //! Answers as JSON: one object on one line, with the numbers of `--plain`.
 
+use crate::list::check::Checked;
 use crate::replies::Question;
 use crate::search::{Ended, Limits};
 use crate::trace::Move;
@@ -140,6 +141,19 @@ fn found(ended: &Ended, steps: &[Step]) -> Json {
         Some((parts, moves)) => list(&moves, |made| step(&parts, made)),
         None => Json::List(ended.numbered(steps).map(|(i, step)| Json::Object(numbered(i, step))).collect()),
     }
+}
+
+/// A list: how many configurations are accepted, or the words of the one at fault, and the step that leads outside.
+pub fn check(question: &Question, checked: &Checked) -> String {
+    let mut fields = head(question, checked.answer.refused());
+    fields.push(("configurations", number(checked.answer.count)));
+    fields.extend(checked.parts.as_ref().map_or(Vec::new(), setting));
+    if checked.answer.refusal >= 70 {
+        let words = checked.words.as_ref().map(|words| list(words, |&word| Json::Number(word)));
+        fields.push(("words", words.unwrap_or(Json::Null)));
+        fields.push(("step", checked.step.map_or(Json::Null, |step| Json::Object(record(step)))));
+    }
+    line(fields)
 }
 
 // Refusal and place; of a refusal its reason and the lines that explain it.

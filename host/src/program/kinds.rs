@@ -22,15 +22,24 @@ const EMPTY: [u8; 9] = [1, 0, 0, 1, 0, 1, 0, 0, 0];
 
 /// What refused bytes are, where the library reads them as something else than was wanted.
 pub fn instead(bytes: &[u8], wanted: Kind) -> Option<&'static str> {
+    known(bytes, Some(wanted))
+}
+
+/// The same in place of a list, which any words may be.
+pub fn instead_of_list(bytes: &[u8]) -> Option<&'static str> {
+    known(bytes, None)
+}
+
+fn known(bytes: &[u8], wanted: Option<Kind>) -> Option<&'static str> {
     let kinds = [Kind::Table, Kind::Bundle, Kind::Drawing, Kind::Log];
-    let is = kinds.into_iter().find(|&kind| kind != wanted && read(bytes, kind))?;
+    let is = kinds.into_iter().find(|&kind| Some(kind) != wanted && read(bytes, kind))?;
     Some(match (is, wanted) {
-        (Kind::Table, Kind::Bundle) => "a table; a bundle is a table and then a schedule; see draw",
+        (Kind::Table, Some(Kind::Bundle)) => "a table; a bundle is a table and then a schedule; see draw",
         (Kind::Table, _) => "a table; see draw",
-        (Kind::Bundle, Kind::Table) if front(bytes).map_or(false, |front| !front.is_empty()) => {
+        (Kind::Bundle, Some(Kind::Table)) if front(bytes).map_or(false, |front| !front.is_empty()) => {
             "a bundle; draw --of draws the table of one"
         }
-        (Kind::Bundle, Kind::Table) => "a bundle, and without a table of its own",
+        (Kind::Bundle, Some(Kind::Table)) => "a bundle, and without a table of its own",
         (Kind::Bundle, _) => "a bundle; see run",
         (Kind::Drawing, _) => "a drawing; see undraw",
         (Kind::Log, _) => "a log; see replay",

@@ -1,5 +1,5 @@
-//! The program at the bench: run, translate, first, trace, search; draw, undraw; unpack, pack; replay, log; edition. Exit status
-//! 0 answered, 1 refused, 2 bad use.
+//! The program at the bench: run, translate, first, trace, search; draw, undraw; unpack, pack; replay, log; edition; check, list. Exit
+//! status 0 answered, 1 refused, 2 bad use.
 #![deny(unsafe_code)]
 
 mod all;
@@ -11,6 +11,7 @@ mod graphviz;
 mod guard;
 mod json;
 mod kinds;
+mod list;
 mod log;
 mod marks;
 mod names;
@@ -45,6 +46,12 @@ Macaroosh runs a schedule of steps against a threshold table.
                              say that the run is quiet: nothing but waits
   macaroosh search FILE      find the first steps after it that put a board in
                              an accepting state, at most --depth D of them
+  macaroosh check LIST --of FILE
+                             check a list of configurations; accepted, it shows
+                             that no schedule of the bundle's table, n, t, f
+                             and starts puts a board in an accepting state
+  macaroosh list FILE        write such a list: all that is reached from the
+                             bundle's start, which has no steps
   macaroosh translate FILE   write the bundle in the other form: counting, or
                              message if it is in counting form
   macaroosh draw TABLE       write the table as a drawing, in Graphviz's DOT
@@ -64,7 +71,8 @@ Macaroosh runs a schedule of steps against a threshold table.
 FILE is a bundle: a table, then a schedule. A bundle without a table is read
 beside the standing table. TABLE is a table alone, without a schedule. LOG has
 lines 'board 0 rule 3' and 'board 2 rule 3 type 0 from 0'; by rule 254 a board
-loses power and stops. For each of the five '-' is standard input.
+loses power and stops. LIST is configurations in words of 64 bits, as a run in
+counting form leaves them. For each of the six '-' is standard input.
 
   --to FORM         the form to translate to: message, counting or plain
   --to EDITION      the edition to move a table to: first or second
@@ -78,6 +86,7 @@ loses power and stops. For each of the five '-' is standard input.
   --budget N        how many steps a search tries at most; without this option
                     100,000,000, which takes some seconds
   --of              draw the table that a bundle has in front
+  --of FILE         with check: the bundle, in counting form without steps
   --trace           with replay: show each line as trace shows a step
   --follow          the same, each as soon as its line has come in; ends at
                     the first line that is refused
@@ -91,8 +100,8 @@ loses power and stops. For each of the five '-' is standard input.
                     that is refused at a step; without it a refused input
                     leaves the file as it was
   --plain           the same answer in numbers, for programs
-  --json            the same answer of run, trace, first, replay or search
-                    as a JSON object
+  --json            the same answer of run, trace, first, replay, search or
+                    check as a JSON object
   --help            this page
   --version         the version
 
@@ -105,6 +114,7 @@ Try: macaroosh trace examples/w.bundle
      macaroosh draw examples/echo.table
      macaroosh replay examples/w-empty.bundle examples/w.log --trace
      macaroosh search examples/bubble.bundle --depth 5
+     macaroosh check examples/no-bubble.list --of examples/no-bubble.bundle
 ";
 
 const VERSION: &str = concat!("macaroosh ", env!("CARGO_PKG_VERSION"), "\n");
@@ -158,7 +168,7 @@ fn reply(request: &Request) -> Result<Reply, String> {
     let plain = request.style == Style::Plain;
     let ask = |answered: &dyn Fn(&Question) -> Result<Reply, String>| {
         let (bundle, standing) = (bundle(&request.input)?, standing()?);
-        answered(&Question { bundle: &bundle, standing: &standing, log: None, style: request.style })
+        answered(&Question { bundle: &bundle, standing: &standing, log: None, list: None, style: request.style })
     };
     match request.command {
         Command::Run => ask(&|question| Ok(replies::run(question))),
@@ -167,6 +177,8 @@ fn reply(request: &Request) -> Result<Reply, String> {
         Command::All => ask(&replies::all),
         Command::Trace(part) => ask(&|question| Ok(trace::reply(question, part))),
         Command::Search(limits) => ask(&|question| search::reply(question, limits, path)),
+        Command::Check => ask(&|question| check(question, request)),
+        Command::List => ask(&|question| Ok(list::make::reply(question, path))),
         Command::Draw(image) => draw::draw(&files::table(&request.input)?, image, path, plain),
         Command::DrawOf(image) => draw::draw_of(&bundle(&request.input)?, image, path, plain),
         Command::Undraw => {
@@ -192,6 +204,12 @@ fn replay(question: &Question, request: &Request, rows: Rows) -> Result<Reply, S
     }
     let log = files::read(from, &format!("a log has at most {}", log::MOST_LOG))?;
     Ok(log::replay::reply(question, &log, rows == Rows::All, path))
+}
+
+fn check(question: &Question, request: &Request) -> Result<Reply, String> {
+    let from = request.list.as_ref().unwrap_or(&Input::Standard);
+    let list = files::read(from, &format!("a list has at most {}", list::MOST_LIST))?;
+    Ok(list::check::reply(question, &list))
 }
 
 // To standard error; if that is closed there is nobody to tell.

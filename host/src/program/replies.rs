@@ -1,7 +1,7 @@
-//! What each command has to say about a bundle; `trace` and `search` have files of their own, and logs have a folder.
+//! What each command has to say about a bundle; `trace` and `search` have files of their own, logs and lists have folders.
 
 use crate::show::{self, Style};
-use crate::{all, json, log, text, why};
+use crate::{all, json, list, log, text, why};
 use macaroosh::calls::Answer;
 use macaroosh::parts::Parts;
 use macaroosh::terms::refusals;
@@ -16,6 +16,8 @@ pub struct Question<'a> {
     pub standing: &'a [u8],
     /// The log that a replay is asked of.
     pub log: Option<&'a [u8]>,
+    /// The list that a check is asked of, as its file.
+    pub list: Option<&'a [u8]>,
     /// Whom the answer is for.
     pub style: Style,
 }
@@ -49,14 +51,15 @@ impl Question<'_> {
 
     /// The figures behind a refusal, in lines.
     pub fn why(&self, refusal: Refusal) -> Vec<String> {
-        match self.log {
-            None => why::of_bundle(self.bundle, self.standing, refusal),
-            Some(log) => log::why::of_replay(self.bundle, self.standing, log, refusal),
+        match (self.log, self.list) {
+            (Some(log), _) => log::why::of_replay(self.bundle, self.standing, log, refusal),
+            (None, Some(list)) => list::why::of_check(self.bundle, self.standing, list, refusal),
+            (None, None) => why::of_bundle(self.bundle, self.standing, refusal),
         }
     }
 
-    // The refusal in words, and its figures.
-    fn told(&self, refusal: Refusal) -> String {
+    /// The refusal in words, and its figures.
+    pub fn told(&self, refusal: Refusal) -> String {
         told(refusal, self.why(refusal))
     }
 }

@@ -98,8 +98,8 @@ pub fn rows(parts: &Parts, steps: &[Step]) -> String {
     aligned(&rows, &[2, 3, 4])
 }
 
-// The message of a step as its form has it.
-fn heard(parts: &Parts, step: Step) -> String {
+/// The message of a step as its form has it.
+pub fn heard(parts: &Parts, step: Step) -> String {
     let Step { kind, source, .. } = step;
     match (parts.form, source) {
         _ if step.silent() => message(parts, step),
@@ -110,7 +110,8 @@ fn heard(parts: &Parts, step: Step) -> String {
     }
 }
 
-fn bytes(step: Step) -> String {
+/// A step as it lies in a bundle.
+pub fn bytes(step: Step) -> String {
     step.record().map(|byte| format!("{byte:02X}")).join(" ")
 }
 

@@ -38,6 +38,11 @@ impl<I: Iterator<Item = OsString>> Words<I> {
         }
     }
 
+    /// What follows the option after its `=`, if anything does.
+    pub fn attached(&mut self) -> Option<OsString> {
+        self.attached.take().map(|(_, value)| value)
+    }
+
     /// The value of an option: after its `=`, or the next word if that is no option.
     pub fn value(&mut self, option: &str, what: &str) -> Result<OsString, String> {
         let missing = format!("{option} needs a {what} after it");

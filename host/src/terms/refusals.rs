@@ -1,4 +1,4 @@
-//! The outline's table of refusals in words, with those of drawings, logs, editions and searches.
+//! The outline's table of refusals in words, with those of drawings, logs, editions, searches and lists.
 
 use std::error::Error;
 use std::fmt::{self, Display, Formatter};
@@ -8,14 +8,18 @@ use std::fmt::{self, Display, Formatter};
 pub struct Refusal {
     /// The number in the outline's table.
     pub number: u8,
-    /// The state, rule, board, step, line or byte; 0 where none is named.
+    /// The state, rule, board, step, line, byte or listed configuration; 0 where none is named.
     pub place: u32,
 }
 
 impl Refusal {
     /// What its place counts.
     pub fn counts(self) -> Place {
-        of(self.number).map_or(Place::None, |line| line.place)
+        match self {
+            // Of a list that is out of order the later one of two is meant, which is never the first.
+            Refusal { number: 70, place: 0 } => Place::None,
+            _ => of(self.number).map_or(Place::None, |line| line.place),
+        }
     }
 
     /// When it is given, in words.
@@ -53,6 +57,8 @@ pub enum Place {
     Byte,
     /// A line of a log.
     Line,
+    /// A configuration of a list.
+    Configuration,
 }
 
 impl Place {
@@ -66,6 +72,7 @@ impl Place {
             Place::Step => Some("step"),
             Place::Byte => Some("byte"),
             Place::Line => Some("line"),
+            Place::Configuration => Some("configuration"),
         }
     }
 }
@@ -86,7 +93,7 @@ const fn line(number: u8, place: Place, when: &'static str) -> Line {
 }
 
 /// Every refusal, in the order of the checks.
-pub const ALL: [Line; 34] = [
+pub const ALL: [Line; 39] = [
     line(40, Place::None, "the input is over 17,648 bytes (report program only)"),
     line(10, Place::None, "the bundle is under 8 bytes"),
     line(11, Place::None, "the schedule's second distance plus 8 exceeds the bundle"),
@@ -121,6 +128,16 @@ pub const ALL: [Line; 34] = [
     line(50, Place::Line, "the line has another shape, or a number over 254"),
     line(34, Place::None, "the search is asked to go over 8 steps deep"),
     line(35, Place::None, "the bundle is not in counting form"),
+    line(
+        70,
+        Place::Configuration,
+        "the bundle is not in counting form, has steps or over 6 correct boards, or the list is no whole number of configurations, \
+         has over 512 or is out of order",
+    ),
+    line(71, Place::Configuration, "the configuration has a word out of range"),
+    line(72, Place::None, "the start is not listed"),
+    line(73, Place::Configuration, "a possible step leads from the configuration to one that is not listed"),
+    line(74, Place::Configuration, "a board of the configuration is in an accepting state"),
     line(32, Place::Rule, "the rule has a divisor other than 1, which the first edition cannot say"),
     line(33, Place::None, "the table is in that edition already"),
     line(30, Place::None, "the lent output is shorter than what is needed"),

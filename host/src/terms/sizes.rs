@@ -12,6 +12,15 @@ pub const MOST_STEPS: usize = 4_096;
 /// The most steps that a search goes deep.
 pub const MOST_DEPTH: u64 = 8;
 
+/// The most correct boards of a bundle whose configurations can be listed.
+pub const MOST_LISTED_BOARDS: usize = 6;
+
+/// The most configurations that a list has.
+pub const MOST_LISTED: usize = 512;
+
+/// The most words that a listed configuration has: 6 states, 6 · 4 pairs of counts, 4 sent counts, the set of stopped boards.
+pub const MOST_LISTED_WORDS: usize = MOST_LISTED_BOARDS + MOST_LISTED_BOARDS * 4 * 2 + 4 + 1;
+
 /// The most bytes that a bundle has: a table, 64 starts, 4,096 steps, a trailer.
 pub const MOST_BYTES: usize = MOST_TABLE + 64 + MOST_STEPS * 4 + 8;
 

@@ -31,6 +31,8 @@ pub struct Case {
     pub logs: Vec<Log>,
     /// Searches after it.
     pub searches: Vec<Search>,
+    /// Lists that are checked for it.
+    pub lists: Vec<List>,
 }
 
 /// A log that is replayed over a case.
@@ -50,6 +52,13 @@ pub struct Search {
     pub tried: u64,
     /// The steps that are written; empty where none are.
     pub writes: Vec<u8>,
+}
+
+/// A list that is checked for a case.
+#[derive(Clone, Debug)]
+pub struct List {
+    pub answer: Answer,
+    pub words: Vec<u64>,
 }
 
 impl Case {
@@ -144,7 +153,11 @@ fn said(case: &mut Case, line: &str, named: &BTreeMap<&str, Vec<u8>>) {
                 case.report += &format!("p {board} {counts}\n");
             }
         }
-        "words" => case.words = Some(repeated(rest).flat_map(|(times, word)| vec![number(word); times]).collect()),
+        "words" => case.words = Some(words(rest)),
+        "list" => {
+            let (numbers, listed) = first_words(rest, 3);
+            case.lists.push(List { answer: answer(&numbers), words: words(listed) });
+        }
         "calls" => case.calls = Some(answer(rest)),
         "to" => {
             let (form, text) = rest.split_once(' ').unwrap_or_else(|| panic!("a form and bytes: {line}"));
@@ -183,6 +196,11 @@ fn log(said: &str) -> Log {
 fn first_words(said: &str, count: usize) -> (String, &str) {
     let words: Vec<&str> = said.splitn(count + 1, ' ').collect();
     (words[..words.len().min(count)].join(" "), words.get(count).copied().unwrap_or(""))
+}
+
+// Words; a slash may stand between configurations.
+fn words(text: &str) -> Vec<u64> {
+    repeated(text).filter(|&(_, item)| item != "/").flat_map(|(times, word)| vec![number(word); times]).collect()
 }
 
 fn bytes(text: &str, named: &BTreeMap<&str, Vec<u8>>) -> Vec<u8> {

@@ -1,10 +1,11 @@
 //! The bundles that speed is measured on, all read beside the echo table. The model has accepted each of their steps.
 
 use crate::dice::Dice;
+use crate::lists::closure;
 use crate::makers::bundles::{closed, in_form, little_endian};
 use crate::model::{read, Bundle, Configuration, Model, Outline};
 use macaroosh::calls::Step;
-use macaroosh::{Form, ECHO};
+use macaroosh::{Form, ECHO, MOST_LISTED};
 
 /// A bundle to measure with.
 pub struct Case {
@@ -58,6 +59,50 @@ pub fn searches() -> Vec<SearchCase> {
         of("echo-v1-12", vec![1; 9], 9, [12, 3, 3, 1], 3),
         of("wide", [wide_table(table), (0..14).map(|p| p % 3).collect()].concat(), 14, [19, 5, 5, 1], 2),
     ]
+}
+
+/// A list to measure with.
+pub struct ListCase {
+    /// What it shows, in a word or two.
+    pub name: &'static str,
+    /// Its bundle, without steps and in counting form.
+    pub bundle: Vec<u8>,
+    /// All configurations that are reached from there; it is accepted.
+    pub list: Vec<u64>,
+}
+
+/// All lists: the echo table with boards that have no echo to send, few and many; and the most of the largest configurations.
+pub fn lists() -> Vec<ListCase> {
+    let of = |name, before: Vec<u8>, correct, numbers| {
+        let bundle = closed(&before, &[], correct, numbers);
+        let whole = read(&bundle, &ECHO).expect("a bundle");
+        let list = closure(&whole, &[whole.start().words()], MOST_LISTED).expect("not too many").concat();
+        ListCase { name, bundle, list }
+    };
+    vec![
+        of("list-8", vec![0; 3], 3, [4, 1, 1, 1]),
+        of("list-243", vec![0; 5], 5, [7, 2, 2, 1]),
+        of("list-512", [most_listed(), vec![0, 4, 4, 6, 6, 6]].concat(), 6, [7, 1, 1, 1]),
+    ]
+}
+
+// A table of 16 states, 64 rules and T = 4 from which six boards reach 512 configurations where one more is faulty. Board 0 goes round
+// states 0 to 3 and hears of each type what there is; boards 1 and 2 go from state 4 to state 5 on a faulty message of type 0, and send
+// type 3, which board 0 hears; boards 3 to 5 stay in state 6, whose rules ask too much.
+fn most_listed() -> Vec<u8> {
+    let flags = |s: usize| u8::from([0, 4, 6].contains(&s)) + 2 * u8::from(s > 6);
+    let states = (0..16).map(|s| [flags(s), if s == 5 { 8 } else { 0 }]);
+    // For n = 7 and t = 1 none of these asks for anything.
+    let little = |r: usize, m: usize| [[0, 0, 0], [255, 0, 1], [0, 255, 1], [255, 1, 0]][(r + m) % 4];
+    let asks =
+        |r: usize, kind: usize, count: u8| [0, 1, 2, 3].map(|m| if m == kind { [0, 0, count] } else { little(r, m) });
+    let rules = (0..64).map(|r| match r % 16 {
+        0..=7 => rule(r % 4, r / 4 % 2 + r / 16 % 2 * 2, asks(r, 4, 0)),
+        8..=10 => rule(4, 5, asks(r, 0, 1)),
+        11 | 12 => rule(5, 5, asks(r, 0, 2)),
+        _ => rule(6, 7, asks(r, r / 16, 3)),
+    });
+    table(states.collect(), rules.collect())
 }
 
 // Schedule W of the outline.

@@ -33,7 +33,8 @@ pub fn any(dice: &mut Dice) -> Search {
 // A bundle, a standing table, and a depth.
 type Asked = ((Vec<u8>, Vec<u8>), u64);
 
-const COUNTING: [u8; 1] = [Form::Counting as u8];
+/// The number of the counting form alone.
+pub(super) const COUNTING: [u8; 1] = [Form::Counting as u8];
 
 type Kind = (&'static str, fn(&mut Dice) -> Asked);
 
@@ -103,8 +104,8 @@ fn stopped(dice: &mut Dice) -> (Vec<u8>, Vec<u8>) {
     (stops.iter().fold(bundle, |bundle, &stop| bundles::with(&bundle, stop)), table)
 }
 
-// A bundle of n boards and the first of its steps, with a table of so many states, rules and types in front or beside.
-fn of_table(dice: &mut Dice, counts: [usize; 3], n: usize, forms: &[u8]) -> (Vec<u8>, Vec<u8>) {
+/// A bundle of n boards and the first of its steps, with a table of so many states, rules and types in front or beside.
+pub(super) fn of_table(dice: &mut Dice, counts: [usize; 3], n: usize, forms: &[u8]) -> (Vec<u8>, Vec<u8>) {
     let factor = dice.between(1, 3);
     let table = table(dice, counts, factor);
     let own = dice.once_in(2);
