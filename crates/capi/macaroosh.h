@@ -36,6 +36,13 @@ extern "C" {
 uint64_t macaroosh_run(const uint8_t *bundle, size_t bundle_length, const uint8_t *standing, size_t standing_length,
                        uint64_t *words, size_t words_length);
 
+/* The same run, but the count is receipts + 65,536 * sends: of the accepted steps those that receive a message, and those that send
+ * a type which the state they leave has not sent. Waits and stops are neither. After a step's refusal they are those of the steps
+ * before it; with any other they are 0. With C = n - f boards and T types there are at most C * T * n receipts and C * T sends,
+ * whatever the schedule: at most 16,384 and 256. */
+uint64_t macaroosh_receipts(const uint8_t *bundle, size_t bundle_length, const uint8_t *standing, size_t standing_length,
+                            uint64_t *words, size_t words_length);
+
 /* Writes the bundle in the other form (message to counting, counting to message, plain to counting) to the lent bytes; it is
  * as long as the bundle itself. Answers packed: refusal, place, bytes written. Any refusal leaves the bytes as they were. */
 uint64_t macaroosh_translate(const uint8_t *bundle, size_t bundle_length, const uint8_t *standing, size_t standing_length,
@@ -152,7 +159,7 @@ uint64_t macaroosh_to_first(const uint8_t *table, size_t table_length, uint8_t *
  *   71 a word out of range [configuration]         72 the start is not listed
  *   73 a step leads outside [configuration]        74 a board is accepting [configuration]  (70 to 74: check_list)
  *   32 a divisor is not 1 [rule] (to_first)        33 in that edition already (to_second, to_first)
- *   30 lent output too short (run, translate, translate_to, to_second, to_first, search, replay: either)
+ *   30 lent output too short (run, receipts, translate, translate_to, to_second, to_first, search, replay: either)
  *   20 board not below n - f [step]                26 the board is stopped [step]
  *   21 rule not in the table [step]                22 rule does not leave the state [step]
  *   23 type or source out of range, or a stop with a message [step]

@@ -5,9 +5,10 @@ fn main() -> Result<(), Refusal> {
     // Schedule W of the outline: three correct boards and a faulty one, read beside the echo table.
     let w = [1, 1, 1, 0, 3, 255, 255, 1, 3, 255, 255, 2, 3, 0, 0, 2, 4, 0, 3, 2, 5, 0, 1, 20, 0, 23, 0, 4, 1, 1, 0];
 
-    // Board 2 has two echoes (type 0) of correct boards and one of a faulty board, and accepts in state 3.
+    // Board 2 has two echoes (type 0) of correct boards and one of a faulty board, and accepts in state 3. Three steps receive an echo
+    // and three send one, of which one does both; no run of these boards has over 12 receipts or 3 sends.
     let ran = run(&w, &ECHO)?;
-    assert_eq!(ran.steps, 5);
+    assert_eq!((ran.steps, ran.receipts, ran.sends), (5, 3, 3));
     let left = ran.configuration;
     assert_eq!((left.state(2), left.correct(2, 0), left.faulty(2, 0)), (Some(3), Some(2), Some(1)));
     assert_eq!(left.sent(0), Some(3));
@@ -21,7 +22,7 @@ fn main() -> Result<(), Refusal> {
     twice[22] = 0;
     let refused = run(&twice, &ECHO).unwrap_err();
     assert_eq!(refused.to_string(), "refused 24 at step 4: the message is not in transit");
-    assert_eq!(refused.before.map(|run| run.steps), Some(4));
+    assert_eq!(refused.before.map(|run| (run.steps, run.receipts, run.sends)), Some((4, 2, 3)));
 
     // W in plain form: as many messages, and no word of who sent them.
     let plain = translate(&w, &ECHO, Form::Plain)?;

@@ -19,7 +19,7 @@ pub use terms::form::Form;
 pub use terms::refusals::Refusal;
 pub use terms::rules::STOP;
 pub use terms::sizes::{MOST_BYTES, MOST_DEPTH, MOST_DRAWING, MOST_STEPS, MOST_TABLE, MOST_WORDS};
-pub use terms::sizes::{MOST_LISTED, MOST_LISTED_BOARDS, MOST_LISTED_WORDS};
+pub use terms::sizes::{MOST_LISTED, MOST_LISTED_BOARDS, MOST_LISTED_WORDS, MOST_RECEIPTS};
 pub use typed::{check_list, draw, draw_into, first_step, replay, replay_into, run, run_into, search, search_into};
 pub use typed::{to_first, to_first_into, to_second, to_second_into};
 pub use typed::{translate, translate_into, undraw, undraw_into};

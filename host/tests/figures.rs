@@ -7,8 +7,8 @@ mod table;
 use judge::fast::Fast;
 use judge::makers::bundles::closed;
 use judge::model::{read, report, Bundle, Coefficients, Model, Outline};
-use judge::{Bench, Checks, Library, Limits, Moves, Replays, Searches};
-use macaroosh::calls::{Answer, First, Step};
+use judge::{Bench, Checks, Counts, Library, Limits, Moves, Replays, Searches};
+use macaroosh::calls::{Answer, First, Receipts, Step};
 use macaroosh::{Form, Refusal, ECHO, MOST_BYTES};
 use reporter::reported;
 use table::{case, cases, moves, List, Moved, Search};
@@ -39,6 +39,36 @@ fn runs_end_as_the_table_says() {
                 if !words.is_empty() {
                     let mut few = vec![9; words.len() - 1];
                     assert_eq!(bench.run(&bundle, standing, &mut few), answer((30, 0, 0)), "{about}");
+                    assert!(few.iter().all(|&word| word == 9), "{about}");
+                }
+            }
+        }
+    }
+}
+
+#[test]
+fn receipts_are_as_the_table_says() {
+    let counters: [(&str, &dyn Counts); 2] = [("model", &Model), ("library", &Library)];
+    assert!(cases().iter().filter(|case| case.receipts.is_some()).count() > 30, "the lines are not read");
+    for case in cases() {
+        let (Answer { refusal, place, .. }, words) = (case.answer(), case.words.clone().unwrap_or_default());
+        for (bundle, standing) in case.beside(&case.bundle) {
+            // Without a line, what the model counts.
+            let told = case.receipts.unwrap_or_else(|| {
+                let counted = Model.receipts(&bundle, standing, &mut vec![0; words.len()]);
+                [counted.receipts, counted.sends]
+            });
+            let expected = Receipts { refusal, place, receipts: told[0], sends: told[1] };
+            for (who, counter) in counters {
+                let about = format!("{who}: {}, {} bytes", case.name, bundle.len());
+                let mut lent = vec![u64::MAX; words.len() + 3];
+                assert_eq!(counter.receipts(&bundle, standing, &mut lent), expected, "{about}");
+                assert_eq!(lent, [&words[..], &[u64::MAX; 3]].concat(), "{about}");
+                // One word less is too little.
+                if !words.is_empty() {
+                    let mut few = vec![9; words.len() - 1];
+                    let refused = Receipts { refusal: 30, place: 0, receipts: 0, sends: 0 };
+                    assert_eq!(counter.receipts(&bundle, standing, &mut few), refused, "{about}");
                     assert!(few.iter().all(|&word| word == 9), "{about}");
                 }
             }

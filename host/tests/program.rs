@@ -56,6 +56,7 @@ fn run_shows_the_configuration() {
     let shown = "\
 message form, n = 4, t = 1, f = 1: boards 0 to 2 are correct, 3 is faulty
 after 5 steps: what each board has (from correct + faulty boards), and what was sent
+3 of at most 12 receipts, 3 of at most 3 sends
 
 board  state        has type 0
     0  2                   0+0
@@ -71,6 +72,7 @@ board  state        has type 0
     let shown = "\
 plain form, n = 4, t = 1, f = 1: boards 0 to 2 are correct, 3 is faulty
 after 5 steps: what each board has (from correct and faulty boards together), and what was sent
+3 of at most 12 receipts, 3 of at most 3 sends
 
 board  state        has type 0
     0  2                     0
@@ -87,6 +89,7 @@ fn a_refused_run_shows_what_it_left() {
     let shown = "\
 message form, n = 4, t = 1, f = 1: boards 0 to 2 are correct, 3 is faulty
 after 4 steps: what each board has (from correct + faulty boards), and what was sent
+2 of at most 12 receipts, 3 of at most 3 sends
 
 board  state  has type 0
     0  2             0+0
@@ -490,6 +493,7 @@ fn one_echo_from_nothing_is_enough_only_where_t_are_asked_for() {
     let shown = "\
 message form, n = 4, t = 1, f = 1: boards 0 to 2 are correct, 3 is faulty
 after 0 steps: what each board has (from correct + faulty boards), and what was sent
+0 of at most 12 receipts, 0 of at most 3 sends
 
 board  state  has type 0
     0  0             0+0
@@ -506,6 +510,7 @@ rule 1 asks for 2 of type 0 (t + 1), board 0 has 1, this one included
     let shown = "\
 message form, n = 4, t = 1, f = 1: boards 0 to 2 are correct, 3 is faulty
 after 1 step: what each board has (from correct + faulty boards), and what was sent
+1 of at most 12 receipts, 1 of at most 3 sends
 
 board  state  has type 0
     0  2             0+1
@@ -527,7 +532,7 @@ fn help_is_there() {
         {
             assert!(text(&got.stdout).contains(&format!("macaroosh {command}")));
         }
-        for option in ["--to FORM", "--to EDITION", "--into FOLDER", "--of FILE"] {
+        for option in ["--to FORM", "--to EDITION", "--into FOLDER", "--of FILE", "--receipts"] {
             assert!(text(&got.stdout).contains(option));
         }
     }

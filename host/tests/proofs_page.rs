@@ -216,16 +216,23 @@ fn wrong_calls(page: &str) -> Vec<String> {
     lost.map(|(item, ..)| format!("there is no function {item}")).collect()
 }
 
-// Edits that a table names and that are not there, and the other way round. A figure's edit is one of `figures`.
+// Edits that a table names and that are not there, and the other way round. A figure's edit is one of `figures` or `further`.
 fn wrong_edits(page: &str) -> Vec<String> {
-    let mut named = BTreeSet::new();
+    let (there, mut named) = (edits(), BTreeSet::new());
     for table in tables(page) {
         let figures = table.cells("As a figure").into_iter().flat_map(quoted);
-        named.extend(figures.map(|name| format!("figures/{name}")));
+        named.extend(figures.map(|name| {
+            let further = format!("further/{name}");
+            if there.contains(&further) {
+                further
+            } else {
+                format!("figures/{name}")
+            }
+        }));
         let others = ["In code", "More edits"].map(|head| table.cells(head)).concat();
         named.extend(others.into_iter().flat_map(quoted).map(str::to_string));
     }
-    let differ: Vec<String> = edits().symmetric_difference(&named).cloned().collect();
+    let differ: Vec<String> = there.symmetric_difference(&named).cloned().collect();
     differ.into_iter().map(|edit| format!("{edit} is an edit, or is named, but not both")).collect()
 }
 
@@ -263,7 +270,7 @@ const SLIPS: [Slip; 15] = [
     ("a function", "`bundle::read_fault`", "`bundle::read_faults`", "bundle::read_faults"),
     ("a helper's fact", "(`CountsTo`)", "(`CountTo`)", "CountTo"),
     ("a form's place", "`lowest_in_transit`", "`lowest_transit`", "lowest_transit"),
-    ("an edit of code", "`words/joint-count`", "`words/join-count`", "words/join-count"),
+    ("an edit of code", "`threshold/byte-ff-is-255`", "`threshold/byte-ff-is-256`", "threshold/byte-ff-is-256"),
     ("an edit of a figure", "| `slip-hears-itself` |", "| |", "figures/slip-hears-itself"),
     (
         "an edit in the text",

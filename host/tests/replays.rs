@@ -283,11 +283,11 @@ board 0 ?[31m???rule 3
 fn other_refusals_are_told_as_json() {
     let told = "{\"refusal\":50,\"place\":0,\"reason\":\"the line has another shape, or a number over 254\",\
                 \"why\":[\"line 1, column 15, as an editor counts from 1: the line ends with a carriage return and a line feed; \
-                lines end with a line feed alone\",\"board 0 rule 3\",\"              ^\"],\"accepted\":0}\n";
-    is(&replayed(&["--json"], &bytes("crlf.log")), 1, told, "");
-    is(&replayed(&["--json", "--trace"], &bytes("crlf.log")), 1, told, "");
+                lines end with a line feed alone\",\"board 0 rule 3\",\"              ^\"],\"accepted\":0";
+    is(&replayed(&["--json"], &bytes("crlf.log")), 1, &format!("{told},\"receipts\":0,\"sends\":0}}\n"), "");
+    is(&replayed(&["--json", "--trace"], &bytes("crlf.log")), 1, &format!("{told}}}\n"), "");
     let told = "{\"refusal\":52,\"place\":0,\"reason\":\"the bundle has steps, or is not in message form\",\
-                \"why\":[\"it has 5 steps\"],\"accepted\":0}\n";
+                \"why\":[\"it has 5 steps\"],\"accepted\":0,\"receipts\":0,\"sends\":0}\n";
     is(&given(&["replay", "--json", "-", name(&example("w.log"))], &bytes("w.bundle")), 1, told, "");
 }
 
@@ -747,7 +747,7 @@ fn wrong_words_are_told() {
         (&["run", empty, "--trace"], "--trace and --follow are for replay alone"),
         (&["trace", empty, "--follow"], "--trace and --follow are for replay alone"),
         (&["log", empty, log], "one bundle at a time: "),
-        (&["log", empty, "--json"], "--json is for run, trace, first, replay and search alone"),
+        (&["log", empty, "--json"], "--json is for run, trace, first, replay, search and check alone"),
         (&["log", "-", "--standing", "-"], "only one of bundle and standing table can come from standard input"),
         (&["replay", empty, "nothing.log", "--follow"], "cannot read 'nothing.log': No such file"),
     ];

@@ -731,6 +731,10 @@ fn as_run(json: &Json) -> String {
     lines
 }
 
+fn as_run_with_receipts(json: &Json) -> String {
+    as_run(json) + &format!("receipts{}\n", json.named(&["receipts", "sends"]))
+}
+
 // The word of the boards that are stopped.
 fn stopped(json: &Json) -> u64 {
     let boards = json.get("stopped").flat();
@@ -763,8 +767,9 @@ fn json_has_the_numbers_of_plain() {
     let mut refused = BTreeMap::new();
     for seed in 1..=part_of(150) {
         let bytes = bundles::any(&mut Dice::new(seed));
-        let commands: [(&[&str], AsPlain); 5] = [
+        let commands: [(&[&str], AsPlain); 6] = [
             (&["run"], as_run),
+            (&["run", "--receipts"], as_run_with_receipts),
             (&["trace"], as_trace),
             (&["trace", "--from", "1", "--board", "0"], as_trace),
             (&["first"], as_first),
@@ -823,14 +828,15 @@ fn has_the_setting(json: &Json, bundle: &Bundle) {
 fn json_by_example() {
     let w = example("w.bundle");
     let run =
-        "{\"refusal\":0,\"place\":0,\"accepted\":5,\"form\":\"message\",\"n\":4,\"t\":1,\"f\":1,\"states\":[2,2,3],\
-               \"received\":[[[0,0]],[[0,0]],[[2,1]]],\"sent\":[3],\"stopped\":[],\
+        "{\"refusal\":0,\"place\":0,\"accepted\":5,\"receipts\":3,\"sends\":3,\"form\":\"message\",\"n\":4,\"t\":1,\"f\":1,\
+               \"states\":[2,2,3],\"received\":[[[0,0]],[[0,0]],[[2,1]]],\"sent\":[3],\"stopped\":[],\
                \"received_from\":[[[]],[[]],[[0,1,3]]],\"sent_by\":[[0,1,2]]}\n";
     assert_eq!(output(&["run", "--json", "-"], &w), run);
     let first = "{\"refusal\":0,\"place\":0,\"form\":\"message\",\"n\":4,\"t\":1,\"f\":1,\
                  \"step\":{\"board\":0,\"rule\":4,\"type\":0,\"source\":0}}\n";
     assert_eq!(output(&["first", "--json", "-"], &w), first);
-    let refused = "{\"refusal\":10,\"place\":0,\"reason\":\"the bundle is under 8 bytes\",\"why\":[],\"accepted\":0}\n";
+    let refused = "{\"refusal\":10,\"place\":0,\"reason\":\"the bundle is under 8 bytes\",\"why\":[],\"accepted\":0,\
+                   \"receipts\":0,\"sends\":0}\n";
     assert_eq!(output(&["run", "--json", "-"], b""), refused);
 }
 

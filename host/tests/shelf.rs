@@ -337,7 +337,10 @@ fn wrong_words_are_told() {
     mistake(&["edition", "--to", "first", "--into", "y", "-"], "standard input has none");
     mistake(&["edition", "--to", "first", "--into", "y", "x/.."], "'x/..' is no name of a file");
     mistake(&["edition", "--to", "first", "x", "--replace"], "--replace is for --into alone");
-    mistake(&["edition", "--to", "first", "x", "--json"], "--json is for run, trace, first, replay and search alone");
+    mistake(
+        &["edition", "--to", "first", "x", "--json"],
+        "--json is for run, trace, first, replay, search and check alone",
+    );
     mistake(&["edition", "--to", "first", "x", "--partial"], "--partial is for run and trace alone");
     mistake(&["edition", "--to", "first", "x", "--standing", "y"], "this command reads a table alone");
     mistake(&["run", "--into", "y", "x"], "--into is for edition alone");

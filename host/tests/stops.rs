@@ -283,6 +283,7 @@ const FOUR: &str = "message form, n = 4, t = 1, f = 0: boards 0 to 3 are correct
 fn a_run_shows_which_boards_are_stopped() {
     let shown = "\
 after 6 steps: what each board has (from correct + faulty boards), and what was sent
+4 of at most 16 receipts, 3 of at most 4 sends
 
 board  state        has type 0
     0  2, stopped          0+0
@@ -294,7 +295,8 @@ board  state        has type 0
     let bundle = example("stop.bundle");
     shows(&["run", "-"], &bundle, &format!("{FOUR}{shown}"));
     shows(&["run", "-", "--plain"], &bundle, &report(&bundle));
-    let json = "{\"refusal\":0,\"place\":0,\"accepted\":6,\"form\":\"message\",\"n\":4,\"t\":1,\"f\":0,\
+    let json = "{\"refusal\":0,\"place\":0,\"accepted\":6,\"receipts\":4,\"sends\":3,\
+                \"form\":\"message\",\"n\":4,\"t\":1,\"f\":0,\
                 \"states\":[2,3,2,1],\"received\":[[[0,0]],[[3,0]],[[1,0]],[[0,0]]],\"sent\":[3],\"stopped\":[0],\
                 \"received_from\":[[[]],[[0,1,2]],[[0]],[[]]],\"sent_by\":[[0,1,2]]}\n";
     shows(&["run", "-", "--json"], &bundle, json);

@@ -56,6 +56,12 @@ fn byte(i: usize) -> u8 {
     (i * 7 + 3) as u8
 }
 
+// The receipts and sends of a run.
+fn had(bundle: &[u8], standing: &[u8]) -> (usize, usize) {
+    let answer = calls::receipts(bundle, standing, &mut [0; MOST_WORDS]);
+    (answer.receipts as usize, answer.sends as usize)
+}
+
 // A run by each call; the number of its refusal, and of those of lent memory.
 fn runs_alike(bundle: &[u8], standing: &[u8]) -> Vec<u8> {
     let mut words = vec![9; MOST_WORDS];
@@ -66,7 +72,8 @@ fn runs_alike(bundle: &[u8], standing: &[u8]) -> Vec<u8> {
         let configuration = Configuration::of(bundle, standing, &words).expect("a configuration is left");
         assert_eq!(configuration.words(), &words[..length]);
         assert_eq!(Configuration::of(bundle, standing, &words[..length - 1]), None);
-        Run { steps: answer.count as usize, configuration }
+        let (receipts, sends) = had(bundle, standing);
+        Run { steps: answer.count as usize, receipts, sends, configuration }
     });
     match run(bundle, standing) {
         Ok(ran) => assert_eq!((answer.refusal, Some(ran)), (0, left)),
@@ -150,7 +157,9 @@ fn replays_alike(bundle: &[u8], standing: &[u8], log: &[u8]) -> Vec<u8> {
     let long = bundle.len() + 4 * lines.min(4_096);
     let made = answer.left_a_configuration().then(|| {
         let configuration = Configuration::of(&out[..long], standing, &words).expect("a configuration is left");
-        Replayed { bundle: out[..long].to_vec(), run: Run { steps: answer.count as usize, configuration } }
+        let (receipts, sends) = had(&out[..long], standing);
+        let run = Run { steps: answer.count as usize, receipts, sends, configuration };
+        Replayed { bundle: out[..long].to_vec(), run }
     });
     match replay(bundle, standing, log) {
         Ok(replayed) => assert_eq!((answer.refusal, Some(replayed)), (0, made)),

@@ -1,7 +1,7 @@
 /* The header from C: schedule W is run in each form, translated there and back and to each form, and asked for its first step,
  * as is a run that is quiet; the echo table is drawn and read back, and moved to the second edition and back; W's log is replayed;
- * a table with divisors is used and drawn; schedules are searched for; lists are checked; a board stops; refusals leave lent memory
- * alone. The last line is 'N passed, M failed'. */
+ * a table with divisors is used and drawn; schedules are searched for; lists are checked; a board stops; receipts and sends are
+ * counted; refusals leave lent memory alone. The last line is 'N passed, M failed'. */
 #include "macaroosh.h"
 
 #include <stdio.h>
@@ -118,6 +118,28 @@ static void runs(void) {
     for (i = 0; i < MACAROOSH_MOST_WORDS; i++) words[i] = 99;
     check("W in plain form runs", answers(macaroosh_run(plain, sizeof plain, echo, sizeof echo, words, 8), 0, 0, 5));
     check("its words, and none past them", memcmp(words, plain_words, sizeof plain_words) == 0);
+}
+
+/* The count that so many receipts and sends are packed in. */
+static uint32_t both(uint32_t receipts, uint32_t sends) { return receipts + 65536 * sends; }
+
+static void receipts(void) {
+    static const uint64_t w_words[] = {2, 2, 3, 0, 0, 11, 7, 0, 99}, twice_words[] = {2, 2, 2, 0, 0, 9, 7, 0, 99};
+    uint64_t words[] = {99, 99, 99, 99, 99, 99, 99, 99, 99}, wide[11];
+    uint8_t twice[sizeof w];
+    memcpy(twice, w, sizeof w);
+    twice[22] = 0;
+    check("seven words are too few for receipts", answers(macaroosh_receipts(w, sizeof w, echo, sizeof echo, words, 7), 30, 0, 0));
+    check("no receipts without a bundle", answers(macaroosh_receipts(NULL, 0, echo, sizeof echo, words, 9), 10, 0, 0));
+    check("the words of no receipts stay", words[0] == 99 && words[6] == 99);
+    check("W has 3 receipts and 3 sends", answers(macaroosh_receipts(w, sizeof w, echo, sizeof echo, words, 9), 0, 0, both(3, 3)));
+    check("and leaves what its run does", memcmp(words, w_words, sizeof words) == 0);
+    check("the same in counting form",
+          answers(macaroosh_receipts(counting, sizeof counting, echo, sizeof echo, wide, 11), 0, 0, both(3, 3)));
+    check("the same in plain form", answers(macaroosh_receipts(plain, sizeof plain, echo, sizeof echo, words, 8), 0, 0, both(3, 3)));
+    check("a refused step is none of them",
+          answers(macaroosh_receipts(twice, sizeof twice, echo, sizeof echo, words, 9), 24, 4, both(2, 3)));
+    check("and the words are those before it", memcmp(words, twice_words, sizeof words) == 0);
 }
 
 static void translations(void) {
@@ -502,6 +524,7 @@ static void refusals(void) {
 
 int main(void) {
     runs();
+    receipts();
     translations();
     forms();
     first_steps();

@@ -1,7 +1,7 @@
 -- Every answer fits its bits, and is read back from them.
 use mathlib.Core.Path.{_≡_, refl, sym, ap, _∙_, subst⁻¹}
 use mathlib.Core.List.{List}
-use Prim.Native.Nat.{ℕ, _+_, _-_, _*_, _/_, _%_, _^_, _<_}
+use Prim.Native.Nat.{ℕ, _+_, _-_, _*_, _/_, _%_, _^_, _≤_, _<_}
 use native.Mathlib.Omega.{arith}
 use lib.ListN.{length}
 use borrow.Author.Tests.{ne-eqb, ltb-true, lt-ltb}
@@ -24,12 +24,15 @@ use Rattle.first_step.specs.Entry.{firstAnswer}
 use Rattle.first_step.proofs.BoundLaws.{FirstWithin, first-answer-within}
 use Rattle.replay.specs.Entry.{replayAnswer}
 use Rattle.replay.proofs.BoundLaws.{ReplayWithin, replay-within}
+use Rattle.counted.specs.declared.Counted.{Counted}
+use Rattle.counted.specs.Entry.{countedAnswer}
+use Rattle.counted.proofs.Bounds.{receipts-within, sends-within}
 use Rattle.search.specs.declared.Searched.{Searched}
 use Rattle.search.specs.Entry.{searchAnswer}
 use Rattle.search.proofs.Bounds.{search-within}
 use Rattle.lists.specs.Entry.{listAnswer}
 use Rattle.lists.proofs.Bounds.{list-within}
-use Rattle.capi.specs.Packed.{packed, capped, outcomeAnswer, answerIn, Fits, packedFirst, firstIn, FirstFits, NothingLost}
+use Rattle.capi.specs.Packed.{packed, capped, outcomeAnswer, answerIn, Fits, packedFirst, firstIn, FirstFits, NothingLost, receiptsAnswer, receiptsIn, sendsIn}
 
 -- ---- read back
 answer-back : (a : Answer) → Fits a → answerIn (packed a) ≡ a
@@ -105,6 +108,13 @@ replay-fits b standing log bytes words = let W = replay-within b standing log by
 search-fits : (b standing : List ℕ) (depth budget lent : ℕ) → Fits (outcomeAnswer (searchAnswer b standing depth budget lent))
 search-fits b standing depth budget lent = let W = search-within b standing depth budget lent in record { refusal = omega (arith, W .refusal); place = omega (arith, W .place); count = omega (arith, W .outcome) }
 
+receipts-fit : (b standing : List ℕ) (lent : ℕ) → Fits (receiptsAnswer (countedAnswer b standing lent))
+unfolding countedAnswer
+receipts-fit b standing lent = let F = run-fits b standing lent in record { refusal = F .refusal; place = F .place; count = omega (arith, receipts-within b standing lent, sends-within b standing lent) }
+
+receipts-back : (b standing : List ℕ) (lent : ℕ) → (receiptsIn (receiptsAnswer (countedAnswer b standing lent) .count) ≡ countedAnswer b standing lent .receipts) × (sendsIn (receiptsAnswer (countedAnswer b standing lent) .count) ≡ countedAnswer b standing lent .sends)
+receipts-back b standing lent = let W = receipts-within b standing lent in (omega (arith, W), omega (arith, W))
+
 list-fits : (b standing l : List ℕ) → Fits (listAnswer b standing l)
 list-fits b standing l = let W = list-within b standing l in record { refusal = omega (arith, W .refusal); place = omega (arith, W .place); count = omega (arith, W .count) }
 
@@ -117,7 +127,7 @@ first-fits : (b standing : List ℕ) → FirstFits (firstAnswer b standing)
 first-fits b standing = within-first (firstAnswer b standing) (first-answer-within b standing)
 
 pub nothing-lost : NothingLost
-nothing-lost = record { answer-back = answer-back; first-back = first-back; run-fits = run-fits; translate-fits = translate-fits; draw-fits = draw-fits; undraw-fits = undraw-fits; undraw-whole = undraw-whole; to-second-fits = to-second-fits; to-first-fits = to-first-fits; replay-fits = replay-fits; search-fits = search-fits; list-fits = list-fits; first-fits = first-fits }
+nothing-lost = record { answer-back = answer-back; first-back = first-back; run-fits = run-fits; translate-fits = translate-fits; draw-fits = draw-fits; undraw-fits = undraw-fits; undraw-whole = undraw-whole; to-second-fits = to-second-fits; to-first-fits = to-first-fits; replay-fits = replay-fits; search-fits = search-fits; receipts-fit = receipts-fit; receipts-back = receipts-back; list-fits = list-fits; first-fits = first-fits }
 
 -- ---- the code, from what it has in hand
 pub packed-by : {x : ℕ} {a a′ : Answer} → a ≡ a′ → x ≡ packed a → x ≡ packed a′
@@ -134,6 +144,16 @@ replay-fits-by b standing log bytes words e = subst⁻¹ Fits e (replay-fits b s
 
 pub list-fits-by : {a : Answer} (b standing l : List ℕ) → a ≡ listAnswer b standing l → Fits a
 list-fits-by b standing l e = subst⁻¹ Fits e (list-fits b standing l)
+
+module _ {a : Counted} (b standing : List ℕ) (lent : ℕ) (e : a ≡ countedAnswer b standing lent) where
+  pub receipts-small : (a .receipts ≤ 16384) × (a .sends ≤ 256)
+  receipts-small = subst⁻¹ (λ (c : Counted). (c .receipts ≤ 16384) × (c .sends ≤ 256)) e (receipts-within b standing lent, sends-within b standing lent)
+
+  pub receipts-fit-by : {c : Answer} → c ≡ receiptsAnswer a → Fits c
+  receipts-fit-by f = subst⁻¹ Fits (f ∙ ap receiptsAnswer e) (receipts-fit b standing lent)
+
+  pub packed-receipts : {x : ℕ} {c : Answer} → c ≡ receiptsAnswer a → x ≡ packed c → x ≡ packed (receiptsAnswer (countedAnswer b standing lent))
+  packed-receipts f h = h ∙ ap packed (f ∙ ap receiptsAnswer e)
 
 pub search-fits-by : {a : Searched} {c : Answer} (b standing : List ℕ) (depth budget lent : ℕ) → a ≡ searchAnswer b standing depth budget lent → c ≡ outcomeAnswer a → Fits c
 search-fits-by b standing depth budget lent e f = subst⁻¹ Fits (f ∙ ap outcomeAnswer e) (search-fits b standing depth budget lent)

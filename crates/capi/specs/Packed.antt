@@ -15,6 +15,8 @@ use Rattle.editions.specs.Entry.{toSecondAnswer, toFirstAnswer}
 use Rattle.first_step.specs.declared.First.{First}
 use Rattle.first_step.specs.Entry.{firstAnswer}
 use Rattle.replay.specs.Entry.{replayAnswer}
+use Rattle.counted.specs.declared.Counted.{Counted}
+use Rattle.counted.specs.Entry.{countedAnswer}
 use Rattle.search.specs.declared.Searched.{Searched}
 use Rattle.search.specs.Entry.{searchAnswer}
 use Rattle.lists.specs.Entry.{listAnswer}
@@ -26,6 +28,16 @@ packed a = a .refusal + 2 ^ 8 * a .place + 2 ^ 32 * a .count
 -- an answer whose place has room: one that has not is given as the largest that has
 unfoldable pub capped : Answer → Answer
 capped a = record { refusal = a .refusal; place = a .place if a .place below 2 ^ 24 else 2 ^ 24 - 1; count = a .count }
+
+-- the answer of a run that is counted: receipts + 65,536 · sends is its count, and both are read back from it
+abbrev pub receiptsAnswer : Counted → Answer
+receiptsAnswer a = record { refusal = a .answer .refusal; place = a .answer .place; count = a .receipts + 65536 * a .sends }
+
+abbrev pub receiptsIn : ℕ → ℕ
+receiptsIn count = count % 65536
+
+abbrev pub sendsIn : ℕ → ℕ
+sendsIn count = count / 65536
 
 -- the answer of a search: the outcome is its count; the number tried has a place of its own
 abbrev pub outcomeAnswer : Searched → Answer
@@ -75,5 +87,7 @@ pub record NothingLost : Type 0 where
   pub to-first-fits : (s : List ℕ) (lent : ℕ) → Fits (toFirstAnswer s lent)
   pub replay-fits : (b standing log : List ℕ) (bytes words : ℕ) → Fits (replayAnswer b standing log bytes words)
   pub search-fits : (b standing : List ℕ) (depth budget lent : ℕ) → Fits (outcomeAnswer (searchAnswer b standing depth budget lent))
+  pub receipts-fit : (b standing : List ℕ) (lent : ℕ) → Fits (receiptsAnswer (countedAnswer b standing lent))
+  pub receipts-back : (b standing : List ℕ) (lent : ℕ) → (receiptsIn (receiptsAnswer (countedAnswer b standing lent) .count) ≡ countedAnswer b standing lent .receipts) × (sendsIn (receiptsAnswer (countedAnswer b standing lent) .count) ≡ countedAnswer b standing lent .sends)
   pub list-fits : (b standing l : List ℕ) → Fits (listAnswer b standing l)
   pub first-fits : (b standing : List ℕ) → FirstFits (firstAnswer b standing)

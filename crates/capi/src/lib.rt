@@ -1,9 +1,11 @@
 // The library that others link: each exported function is a thin call, its answer packed as macaroosh.h says.
 ghost use mathlib.Core.Path.{_≡_};
+ghost use Prim.Native.Nat.{_≤_};
 ghost use lib.ListN.{length};
 ghost use Rattle.fault.specs.Tests.{_below_};
 ghost use Rattle.fault.specs.Fault.{_if_else_};
 ghost use Rattle.engine.specs.Entry.{runAnswer, runWords};
+ghost use Rattle.counted.specs.Entry.{countedAnswer};
 ghost use Rattle.translate.specs.Entry.{translateAnswer, translateBytes, translateToAnswer, translateToBytes};
 ghost use Rattle.drawing.specs.Entry.{drawAnswer, drawBytes, undrawAnswer, undrawBytes};
 ghost use Rattle.editions.specs.Entry.{toSecondAnswer, toSecondBytes, toFirstAnswer, toFirstBytes};
@@ -11,7 +13,8 @@ ghost use Rattle.first_step.specs.Entry.{firstAnswer};
 ghost use Rattle.replay.specs.Entry.{replayAnswer, replayBytes, replayWords};
 ghost use Rattle.search.specs.Entry.{searchAnswer, searchBytes};
 ghost use Rattle.lists.specs.Entry.{listAnswer};
-ghost use Rattle.capi.specs.Packed.{packed, capped, outcomeAnswer, Fits, packedFirst, FirstFits};
+ghost use Rattle.capi.specs.Packed.{packed, capped, outcomeAnswer, receiptsAnswer, Fits, packedFirst, FirstFits};
+use counted::Counted;
 use fault::Answer;
 use first_step::First;
 use search::Searched;
@@ -23,6 +26,31 @@ pub extern "C" fn macaroosh_run<'a>(bundle: &'a [u8], standing: &'a [u8], words:
     ensures { λ r. ⌜ now (words .exit) ≡ runWords (now (bundle .entry)) (now (standing .entry)) (now (words .entry)) ⌝ }
 {
     pack(engine::run(bundle, standing, words))
+}
+
+// The same, with the receipts and the sends of its accepted steps: refusal, place, receipts + 65,536 · sends.
+#[no_mangle]
+pub extern "C" fn macaroosh_receipts<'a>(
+    bundle: &'a [u8],
+    standing: &'a [u8],
+    words: &mut [u64],
+) -> u64
+    ensures { λ r. ⌜ r ≡ packed (receiptsAnswer (countedAnswer (now (bundle .entry)) (now (standing .entry)) (length (now (words .entry))))) ⌝ }
+    ensures { λ r. ⌜ now (words .exit) ≡ runWords (now (bundle .entry)) (now (standing .entry)) (now (words .entry)) ⌝ }
+{
+    pack(receipts_of(counted::run(bundle, standing, words)))
+}
+
+// Both numbers as one count.
+fn receipts_of(a: Counted) -> Answer
+    requires { ⌜ (a .receipts ≤ 16384) × (a .sends ≤ 256) ⌝ }
+    ensures { λ r. ⌜ r ≡ receiptsAnswer a ⌝ }
+{
+    Answer {
+        refusal: a.answer.refusal,
+        place: a.answer.place,
+        count: a.receipts + 65536 * a.sends,
+    }
 }
 
 // Writes a bundle's translation to the form that its own usually goes to into the lent bytes: refusal, place, bytes written.

@@ -149,7 +149,7 @@ module _ (b standing : List ℕ) (S : Runs b standing) where
   abbrev pub form : ℕ → List ℕ
   form k = rewritten b (new (levelOf k)) k
 
-  all : InAllForms d begin level ss
+  pub all : InAllForms d begin level ss
   unfolding ranWith
   all = all-forms d (kept t b R) begin (begins t b R) level ss (S .accepted)
 
@@ -190,18 +190,22 @@ module _ (b standing : List ℕ) (S : Runs b standing) where
     begin-c : startIn (sizesIn c standing) c ≡ begin l
     begin-c = λ i. start (typesOf (same-table t b R recast-c standing i)) (wide (level-c i)) (same-start-bytes t b R recast-c i)
 
+    -- whatever is told of level, design, first words and steps
+    pub told-c : {A : Type 0} (g : ℕ → Design → List ℕ → List Step → A) → g (levelOf (formOf c)) (designIn c standing) (startIn (sizesIn c standing) c) (scheduleOf c) ≡ g l d (begin l) (new l)
+    told-c g = λ i. g (level-c i) (same-design i) (begin-c i) (new-steps t b R recast-c i)
+
     ran-c : ranOf c standing ≡ run l d (begin l) (new l)
     unfolding ranWith
-    ran-c = λ i. run (level-c i) (same-design i) (begin-c i) (new-steps t b R recast-c i)
+    ran-c = told-c run
 
     after-c : (n : ℕ) → afterIn c standing n ≡ after l d (begin l) (new l) n
-    after-c n = λ i. after (level-c i) (same-design i) (begin-c i) (new-steps t b R recast-c i) n
+    after-c n = told-c (λ i e w x. after i e w x n)
 
     -- the words that are left are those after all steps
     left-c : ranOf c standing .left ≡ after l d (begin l) (new l) (length ss)
     left-c = ap (λ (r : Ran). r .left) ran-c ∙ sym (ap (λ (x : List Step). run l d (begin l) x .left) (take-all (length ss) (new l) (omega (arith, many))))
 
-    runs-c : k ≤ 2 → Runs c standing
+    pub runs-c : k ≤ 2 → Runs c standing
     runs-c h = record {
       read = ap (λ (v : Verdict). v .number) (same-reading t b R recast-c standing h refl) ∙ S .read;
       accepted = ap (λ (r : Ran). r .refusal) ran-c ∙ all .runs l;

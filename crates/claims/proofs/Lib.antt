@@ -24,3 +24,4 @@ pub mod Exchange
 pub mod Stops
 pub mod ListForms
 pub mod Lists
+pub mod Receipts

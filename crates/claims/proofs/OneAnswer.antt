@@ -8,6 +8,7 @@ both e f = e ∙ sym f
 pub one-answer : OneAnswer
 one-answer = record {
   run = λ κs a r r′ s s′ p q. (both (p .0) (q .0), both (p .1) (q .1));
+  counted = λ κs a r r′ s s′ p q. (both (p .0) (q .0), both (p .1) (q .1));
   translate = λ κs a r r′ s s′ p q. (both (p .0) (q .0), both (p .1) (q .1));
   translate-to = λ κs a r r′ s s′ p q. (both (p .0) (q .0), both (p .1) (q .1));
   first-step = λ κs a r r′ s s′ p q. both p q;
@@ -19,6 +20,7 @@ one-answer = record {
   to-second = λ κs a r r′ s s′ p q. (both (p .0) (q .0), both (p .1) (q .1));
   to-first = λ κs a r r′ s s′ p q. (both (p .0) (q .0), both (p .1) (q .1));
   c-run = λ κs a r r′ s s′ p q. (both (p .0) (q .0), both (p .1) (q .1));
+  c-receipts = λ κs a r r′ s s′ p q. (both (p .0) (q .0), both (p .1) (q .1));
   c-translate = λ κs a r r′ s s′ p q. (both (p .0) (q .0), both (p .1) (q .1));
   c-translate-to = λ κs a r r′ s s′ p q. (both (p .0) (q .0), both (p .1) (q .1));
   c-first-step = λ κs a r r′ s s′ p q. both p q;

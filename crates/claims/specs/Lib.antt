@@ -15,3 +15,4 @@ pub mod Search
 pub mod Exchange
 pub mod Stops
 pub mod Lists
+pub mod Receipts

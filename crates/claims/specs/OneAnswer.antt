@@ -6,6 +6,7 @@ use Prim.Native.Nat.{ℕ}
 use contract.Lifetimes.{Lfts}
 use denote.Ref.{RefT, now}
 use Rattle.engine.proofs.run.Reads as run
+use Rattle.counted.proofs.run.Reads as counted
 use Rattle.translate.proofs.translate.Reads as translate
 use Rattle.translate.proofs.translate_to.Reads as translate-to
 use Rattle.first_step.proofs.first_step.Reads as first-step
@@ -17,6 +18,7 @@ use Rattle.drawing.proofs.undraw.Reads as undraw
 use Rattle.editions.proofs.to_second.Reads as to-second
 use Rattle.editions.proofs.to_first.Reads as to-first
 use Rattle.capi.proofs.macaroosh_run.Reads as c-run
+use Rattle.capi.proofs.macaroosh_receipts.Reads as c-receipts
 use Rattle.capi.proofs.macaroosh_translate.Reads as c-translate
 use Rattle.capi.proofs.macaroosh_translate_to.Reads as c-translate-to
 use Rattle.capi.proofs.macaroosh_first_step.Reads as c-first-step
@@ -103,6 +105,7 @@ OneCounted {A} {R} Post = (a : A) (r r′ : R) (s s′ : Counted) → Post a r s
 
 pub record OneAnswer : Type 0 where
   pub run : (κs : Lfts 2) → OneLent (run.Post κs)
+  pub counted : (κs : Lfts 2) → OneLent (counted.Post κs)
   pub translate : (κs : Lfts 2) → OneLent (translate.Post κs)
   pub translate-to : (κs : Lfts 2) → OneAsked (translate-to.Post κs)
   pub first-step : (κs : Lfts 1) → One (first-step.Post κs)
@@ -114,6 +117,7 @@ pub record OneAnswer : Type 0 where
   pub to-second : (κs : Lfts 2) → OneLentTwo (to-second.Post κs)
   pub to-first : (κs : Lfts 2) → OneLentTwo (to-first.Post κs)
   pub c-run : (κs : Lfts 2) → OneLent (c-run.Post κs)
+  pub c-receipts : (κs : Lfts 2) → OneLent (c-receipts.Post κs)
   pub c-translate : (κs : Lfts 2) → OneLent (c-translate.Post κs)
   pub c-translate-to : (κs : Lfts 2) → OneAsked (c-translate-to.Post κs)
   pub c-first-step : (κs : Lfts 1) → One (c-first-step.Post κs)

@@ -3,7 +3,3 @@ pub mod Drawings
 pub mod Logs
 pub mod Divisors
 pub mod Editions
-pub mod Searches
-pub mod Orders
-pub mod Stops
-pub mod Lists

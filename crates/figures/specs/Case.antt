@@ -19,6 +19,7 @@ use Rattle.replay.specs.Entry.{replayAnswer, replayBytes, replayWords}
 use Rattle.drawing.specs.Entry.{drawAnswer, drawBytes, undrawAnswer, undrawBytes}
 use Rattle.editions.specs.Entry.{toSecondAnswer, toSecondBytes, toFirstAnswer, toFirstBytes}
 use Rattle.search.specs.Entry.{searchAnswer, searchBytes}
+use Rattle.counted.specs.Entry.{countedAnswer}
 use Rattle.lists.specs.Entry.{listAnswer}
 
 pub data Case : Type 0 where
@@ -49,6 +50,8 @@ pub data Case : Type 0 where
   -- a search from where a bundle's schedule ends, beside a standing table, so deep and with such a budget, answers refusal, place, outcome and number tried, and
   -- leaves these bytes in as many lent ones
   searches : List ℕ → List ℕ → ℕ → ℕ → ℕ → ℕ → ℕ → ℕ → List ℕ → Case
+  -- a run of a bundle beside a standing table in so many lent words answers refusal, place and steps, and has had so many receipts and sends
+  counts : List ℕ → List ℕ → ℕ → ℕ → ℕ → ℕ → ℕ → ℕ → Case
   -- a check of a list of words for a bundle beside a standing table answers refusal, place and number of configurations
   checks : List ℕ → List ℕ → List ℕ → ℕ → ℕ → ℕ → Case
 
@@ -76,6 +79,7 @@ Holds (replays b standing log k p i bytes words) =
 Holds (judges n i log k p) = faultFrom n i log ≡ verdict k p
 Holds (searches b standing depth budget k p o n bytes) =
     (searchAnswer b standing depth budget (length bytes) ≡ record { refusal = k; place = p; outcome = o; tried = n }) × (searchBytes b standing depth budget (replicate (length bytes) 9) ≡ bytes)
+Holds (counts b standing lent k p i r n) = countedAnswer b standing lent ≡ record { answer = record { refusal = k; place = p; count = i }; receipts = r; sends = n }
 Holds (checks b standing l k p n) = listAnswer b standing l ≡ record { refusal = k; place = p; count = n }
 
 abbrev pub Every : List Case → Type 0

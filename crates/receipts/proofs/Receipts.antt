@@ -132,10 +132,10 @@ module _ (j : ℕ) (d : Design) (starts : List ℕ) (N : Counts d starts) (ss : 
 -- ---- all of it
 pub receipts-hold : ReceiptLaws
 receipts-hold = record {
-  received = λ k l d starts N ss. received d starts N k ss;
-  sent = λ k l d starts N ss. sent d starts N k ss;
-  few-receipts = λ k l d starts N ss. few-receipts d starts N k ss;
-  few-sends = λ k l d starts N ss. few-sends d starts N k ss;
-  up = λ j l d starts N ss. up j d starts N ss;
-  down = λ j l d starts N ss. down j d starts N ss;
+  received = λ k d starts N ss. received d starts N k ss;
+  sent = λ k d starts N ss. sent d starts N k ss;
+  few-receipts = λ k d starts N ss. few-receipts d starts N k ss;
+  few-sends = λ k d starts N ss. few-sends d starts N k ss;
+  up = λ j d starts N ss. up j d starts N ss;
+  down = λ j d starts N ss. down j d starts N ss;
 }

@@ -64,15 +64,15 @@ startOf k d starts = start (d .types) (wide k) starts
 
 pub record ReceiptLaws : Type 0 where
   -- the numbers stand in the words, whether or not the run ends in a refusal
-  pub received : (k : ℕ) → k ≤ 2 → (d : Design) (starts : List ℕ) → Counts d starts → (ss : List Step) → receivedBy k d (run k d (startOf k d starts) ss .left) ≡ receiptsIn k d (startOf k d starts) ss
-  pub sent : (k : ℕ) → k ≤ 2 → (d : Design) (starts : List ℕ) → Counts d starts → (ss : List Step) → sentBy k d (run k d (startOf k d starts) ss .left) ≡ sendsIn k d (startOf k d starts) ss
+  pub received : (k : ℕ) (d : Design) (starts : List ℕ) → Counts d starts → (ss : List Step) → receivedBy k d (run k d (startOf k d starts) ss .left) ≡ receiptsIn k d (startOf k d starts) ss
+  pub sent : (k : ℕ) (d : Design) (starts : List ℕ) → Counts d starts → (ss : List Step) → sentBy k d (run k d (startOf k d starts) ss .left) ≡ sendsIn k d (startOf k d starts) ss
   -- and never exceed what is known beforehand
-  pub few-receipts : (k : ℕ) → k ≤ 2 → (d : Design) (starts : List ℕ) → Counts d starts → (ss : List Step) → receiptsIn k d (startOf k d starts) ss ≤ d .boards * d .types * (d .boards + d .faulty)
-  pub few-sends : (k : ℕ) → k ≤ 2 → (d : Design) (starts : List ℕ) → Counts d starts → (ss : List Step) → sendsIn k d (startOf k d starts) ss ≤ d .boards * d .types
+  pub few-receipts : (k : ℕ) (d : Design) (starts : List ℕ) → Counts d starts → (ss : List Step) → receiptsIn k d (startOf k d starts) ss ≤ d .boards * d .types * (d .boards + d .faulty)
+  pub few-sends : (k : ℕ) (d : Design) (starts : List ℕ) → Counts d starts → (ss : List Step) → sendsIn k d (startOf k d starts) ss ≤ d .boards * d .types
   -- a schedule that runs has the same receipts and sends as its translation, up and down
-  pub up : (j : ℕ) → j ≤ 1 → (d : Design) (starts : List ℕ) → Counts d starts → (ss : List Step) → run j d (startOf j d starts) ss .refusal ≡ 0
+  pub up : (j : ℕ) (d : Design) (starts : List ℕ) → Counts d starts → (ss : List Step) → run j d (startOf j d starts) ss .refusal ≡ 0
       → (receiptsIn (suc j) d (startOf (suc j) d starts) (map (tagged j d) ss) ≡ receiptsIn j d (startOf j d starts) ss)
       × (sendsIn (suc j) d (startOf (suc j) d starts) (map (tagged j d) ss) ≡ sendsIn j d (startOf j d starts) ss)
-  pub down : (j : ℕ) → j ≤ 1 → (d : Design) (starts : List ℕ) → Counts d starts → (ss : List Step) → run (suc j) d (startOf (suc j) d starts) ss .refusal ≡ 0
+  pub down : (j : ℕ) (d : Design) (starts : List ℕ) → Counts d starts → (ss : List Step) → run (suc j) d (startOf (suc j) d starts) ss .refusal ≡ 0
       → (receiptsIn j d (startOf j d starts) (lowAll j d (startOf j d starts) ss) ≡ receiptsIn (suc j) d (startOf (suc j) d starts) ss)
       × (sendsIn j d (startOf j d starts) (lowAll j d (startOf j d starts) ss) ≡ sendsIn (suc j) d (startOf (suc j) d starts) ss)

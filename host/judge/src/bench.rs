@@ -1,7 +1,7 @@
 //! Whoever is judged, or judges.
 
 use crate::model::Edition;
-use macaroosh::calls::{Answer, First};
+use macaroosh::calls::{Answer, First, Receipts};
 
 /// Whoever answers the three questions about a bundle: the library, the model, or a broken variant of it.
 pub trait Bench {
@@ -16,6 +16,12 @@ pub trait Bench {
 
     /// The first possible step after the whole schedule; a wait is none.
     fn first_step(&self, bundle: &[u8], standing: &[u8]) -> First;
+}
+
+/// Whoever counts receipts and sends: the library, the model, or a broken variant of it.
+pub trait Counts {
+    /// Runs a bundle as a bench does, and counts the accepted steps that receive a message and those that send a new type.
+    fn receipts(&self, bundle: &[u8], standing: &[u8], words: &mut [u64]) -> Receipts;
 }
 
 /// Whoever writes tables as drawings and reads those: the library, the model, or a broken variant of it.

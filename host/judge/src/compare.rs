@@ -1,6 +1,6 @@
 //! Two benches on one bundle, table, drawing, log, search or list: every answer, and every lent word and byte.
 
-use crate::bench::{Bench, Checks, Draws, Limits, Moves, Replays, Searches};
+use crate::bench::{Bench, Checks, Counts, Draws, Limits, Moves, Replays, Searches};
 use crate::dice::Dice;
 use crate::drawings::{Drawing, Text};
 use crate::editions::EditionOutline;
@@ -9,7 +9,7 @@ use crate::makers::lists::List;
 use crate::makers::logs::Replay;
 use crate::makers::searches::Search;
 use crate::model::{read, read_table, Edition, Model};
-use macaroosh::calls::{Answer, First, SPENT};
+use macaroosh::calls::{Answer, First, Receipts, SPENT};
 use macaroosh::{Form, MOST_DEPTH};
 use std::fmt::Debug;
 
@@ -36,19 +36,19 @@ pub fn compare(
         let lent = junk_words(length, dice);
         let ours = |lent: &mut [u64]| one.run(bundle, standing, lent);
         let theirs = |lent: &mut [u64]| other.run(bundle, standing, lent);
-        refusals.push(same("run", lent, ours, theirs)?);
+        refusals.push(same("run", lent, ours, theirs)?.refusal);
     }
     for length in lengths(bundle.len(), dice) {
         let ours = |lent: &mut [u8]| one.translate(bundle, standing, lent);
         let theirs = |lent: &mut [u8]| other.translate(bundle, standing, lent);
-        refusals.push(same("translate", junk(length, dice), ours, theirs)?);
+        refusals.push(same("translate", junk(length, dice), ours, theirs)?.refusal);
     }
     // Those of the forms, and one of none.
     for form in [0, 1, 2, dice.beyond(Form::ALL.len())] {
         for length in lengths(bundle.len(), dice) {
             let ours = |lent: &mut [u8]| one.translate_to(bundle, standing, form, lent);
             let theirs = |lent: &mut [u8]| other.translate_to(bundle, standing, form, lent);
-            refusals.push(same(&format!("translate to {form}"), junk(length, dice), ours, theirs)?);
+            refusals.push(same(&format!("translate to {form}"), junk(length, dice), ours, theirs)?.refusal);
         }
     }
     let (ours, theirs) = (one.first_step(bundle, standing), other.first_step(bundle, standing));
@@ -58,6 +58,23 @@ pub fn compare(
     Ok(Alike { refusals, first: ours })
 }
 
+/// The same for the receipts and sends of a run, with each answer.
+pub fn compare_receipts(
+    one: &dyn Counts,
+    other: &dyn Counts,
+    bundle: &[u8],
+    standing: &[u8],
+    dice: &mut Dice,
+) -> Result<Vec<Receipts>, String> {
+    let mut answers = Vec::new();
+    for length in lengths(words_of(bundle, standing), dice) {
+        let ours = |lent: &mut [u64]| one.receipts(bundle, standing, lent);
+        let theirs = |lent: &mut [u64]| other.receipts(bundle, standing, lent);
+        answers.push(same("receipts", junk_words(length, dice), ours, theirs)?);
+    }
+    Ok(answers)
+}
+
 /// The same for the drawing of a table part, with its refusals.
 pub fn compare_draw(one: &dyn Draws, other: &dyn Draws, table: &[u8], dice: &mut Dice) -> Result<Vec<u8>, String> {
     let mut refusals = Vec::new();
@@ -65,7 +82,7 @@ pub fn compare_draw(one: &dyn Draws, other: &dyn Draws, table: &[u8], dice: &mut
     for length in lengths(bytes, dice) {
         let ours = |lent: &mut [u8]| one.draw(table, lent);
         let theirs = |lent: &mut [u8]| other.draw(table, lent);
-        refusals.push(same("draw", junk(length, dice), ours, theirs)?);
+        refusals.push(same("draw", junk(length, dice), ours, theirs)?.refusal);
     }
     Ok(refusals)
 }
@@ -77,7 +94,7 @@ pub fn compare_undraw(one: &dyn Draws, other: &dyn Draws, text: &[u8], dice: &mu
     for length in lengths(bytes, dice) {
         let ours = |lent: &mut [u8]| one.undraw(text, lent);
         let theirs = |lent: &mut [u8]| other.undraw(text, lent);
-        refusals.push(same("undraw", junk(length, dice), ours, theirs)?);
+        refusals.push(same("undraw", junk(length, dice), ours, theirs)?.refusal);
     }
     Ok(refusals)
 }
@@ -130,7 +147,7 @@ pub fn compare_moves(
             let ours = |lent: &mut [u8]| one.to_edition(to, table, lent);
             let theirs = |lent: &mut [u8]| other.to_edition(to, table, lent);
             let name = format!("to the {} edition", to.name());
-            refusals.push((to, same(&name, junk(length, dice), ours, theirs)?));
+            refusals.push((to, same(&name, junk(length, dice), ours, theirs)?.refusal));
         }
     }
     Ok(refusals)
@@ -211,20 +228,20 @@ fn junk_words(length: usize, dice: &mut Dice) -> Vec<u64> {
     (0..length).map(|_| dice.junk()).collect()
 }
 
-// The refusal of a call, where both answer it alike and leave the lent memory alike.
-fn same<L: Clone + Debug + PartialEq>(
+// The answer of a call, where both give it and leave the lent memory alike.
+fn same<L: Clone + Debug + PartialEq, A: Debug + PartialEq>(
     name: &str,
     lent: Vec<L>,
-    one: impl Fn(&mut [L]) -> Answer,
-    other: impl Fn(&mut [L]) -> Answer,
-) -> Result<u8, String> {
+    one: impl Fn(&mut [L]) -> A,
+    other: impl Fn(&mut [L]) -> A,
+) -> Result<A, String> {
     let (mut ours, mut theirs) = (lent.clone(), lent);
     let answers = (one(&mut ours), other(&mut theirs));
     if answers.0 != answers.1 {
         return Err(format!("{name} with {} lent: {:?} against {:?}", ours.len(), answers.0, answers.1));
     }
     same_memory(&format!("{name} with {} lent: at", ours.len()), &ours, &theirs)?;
-    Ok(answers.0.refusal)
+    Ok(answers.0)
 }
 
 // Where lent memory that was alike is not alike any more.

@@ -14,7 +14,8 @@ pub mod lists;
 pub mod logs;
 pub mod makers;
 pub mod model;
+pub mod receipts;
 pub mod searches;
 
-pub use bench::{Bench, Checks, Draws, Limits, Moves, Replays, Searches};
+pub use bench::{Bench, Checks, Counts, Draws, Limits, Moves, Replays, Searches};
 pub use library::Library;

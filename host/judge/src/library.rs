@@ -1,8 +1,8 @@
 //! The proved library among the benches.
 
-use crate::bench::{Bench, Checks, Draws, Limits, Moves, Replays, Searches};
+use crate::bench::{Bench, Checks, Counts, Draws, Limits, Moves, Replays, Searches};
 use crate::model::Edition;
-use macaroosh::calls::{self, Answer, First};
+use macaroosh::calls::{self, Answer, First, Receipts};
 
 /// The proved library as one of those that are compared.
 pub struct Library;
@@ -22,6 +22,12 @@ impl Bench for Library {
 
     fn first_step(&self, bundle: &[u8], standing: &[u8]) -> First {
         calls::first_step(bundle, standing)
+    }
+}
+
+impl Counts for Library {
+    fn receipts(&self, bundle: &[u8], standing: &[u8], words: &mut [u64]) -> Receipts {
+        calls::receipts(bundle, standing, words)
     }
 }
 

@@ -3,7 +3,7 @@
 use crate::terms::refusals::Refusal;
 use crate::terms::rules::STOP;
 
-/// What every call answers but the first-step question.
+/// What every call answers but those of receipts and of the first step.
 #[derive(Clone, Copy, Debug, PartialEq, Eq)]
 pub struct Answer {
     /// The refusal's number, or 0.
@@ -23,7 +23,7 @@ pub const SPENT: u32 = 17;
 impl Answer {
     /// The refusal, if it is one.
     pub fn refused(self) -> Option<Refusal> {
-        (self.refusal != 0).then_some(Refusal { number: self.refusal, place: self.place })
+        refused(self.refusal, self.place)
     }
 
     /// The count, or the refusal.
@@ -33,7 +33,41 @@ impl Answer {
 
     /// Whether steps were looked at, so that the configuration after the accepted ones is left.
     pub fn left_a_configuration(self) -> bool {
-        self.refusal == 0 || (20..30).contains(&self.refusal)
+        looked_at_steps(self.refusal)
+    }
+}
+
+fn refused(number: u8, place: u32) -> Option<Refusal> {
+    (number != 0).then_some(Refusal { number, place })
+}
+
+// A step's refusals are 20 to 27.
+fn looked_at_steps(refusal: u8) -> bool {
+    refusal == 0 || (20..30).contains(&refusal)
+}
+
+/// What a run answers that counts its receipts and sends.
+#[derive(Clone, Copy, Debug, PartialEq, Eq)]
+pub struct Receipts {
+    /// The refusal's number, or 0, as of the run.
+    pub refusal: u8,
+    /// Its place; 0 where none is named.
+    pub place: u32,
+    /// The accepted steps that receive a message; 0 with any refusal but a step's.
+    pub receipts: u32,
+    /// The accepted steps that send a new type; 0 with any refusal but a step's.
+    pub sends: u32,
+}
+
+impl Receipts {
+    /// The refusal, if it is one.
+    pub fn refused(self) -> Option<Refusal> {
+        refused(self.refusal, self.place)
+    }
+
+    /// Whether steps were looked at, so that the configuration after the accepted ones is left.
+    pub fn left_a_configuration(self) -> bool {
+        looked_at_steps(self.refusal)
     }
 }
 

@@ -4,12 +4,20 @@
 use crate::library::ffi;
 use crate::terms::refusals::Refusal;
 
-pub use crate::library::answer::{Answer, First, Step, NONE, SPENT};
+pub use crate::library::answer::{Answer, First, Receipts, Step, NONE, SPENT};
 
 /// Runs a bundle beside a standing table; the configuration is left in the lent words, of which `MOST_WORDS` are enough.
 #[inline]
 pub fn run(bundle: &[u8], standing: &[u8], words: &mut [u64]) -> Answer {
     unpacked(ffi::run(bundle, standing, words))
+}
+
+/// Runs a bundle in the same way, with the same words left, and counts the accepted steps that receive a message and those that send
+/// a new type; those are never more than (n - f)·T·n and (n - f)·T.
+#[inline]
+pub fn receipts(bundle: &[u8], standing: &[u8], words: &mut [u64]) -> Receipts {
+    let Answer { refusal, place, count } = unpacked(ffi::receipts(bundle, standing, words));
+    Receipts { refusal, place, receipts: count & 0xFFFF, sends: count >> 16 }
 }
 
 /// Writes the bundle in the other form, message and plain to counting and counting to message; as many bytes as the bundle

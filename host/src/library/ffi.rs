@@ -12,6 +12,14 @@ mod capi {
             words: *mut u64,
             words_length: usize,
         ) -> u64;
+        pub fn macaroosh_receipts(
+            bundle: *const u8,
+            bundle_length: usize,
+            standing: *const u8,
+            standing_length: usize,
+            words: *mut u64,
+            words_length: usize,
+        ) -> u64;
         pub fn macaroosh_translate(
             bundle: *const u8,
             bundle_length: usize,
@@ -79,6 +87,22 @@ pub fn run(bundle: &[u8], standing: &[u8], words: &mut [u64]) -> u64 {
     // SAFETY: each pointer and length are of one live slice, and the call is proved to stay inside of them.
     unsafe {
         capi::macaroosh_run(
+            bundle.as_ptr(),
+            bundle.len(),
+            standing.as_ptr(),
+            standing.len(),
+            words.as_mut_ptr(),
+            words.len(),
+        )
+    }
+}
+
+/// The packed answer of a run with its receipts and sends.
+#[inline]
+pub fn receipts(bundle: &[u8], standing: &[u8], words: &mut [u64]) -> u64 {
+    // SAFETY: as above.
+    unsafe {
+        capi::macaroosh_receipts(
             bundle.as_ptr(),
             bundle.len(),
             standing.as_ptr(),

@@ -88,6 +88,16 @@ impl<'a> Parts<'a> {
         self.n - self.f
     }
 
+    /// How many receipts a run has at most: each correct board hears each type of each board once.
+    pub fn most_receipts(&self) -> usize {
+        self.most_sends() * self.n
+    }
+
+    /// How many sends a run has at most: each correct board sends each type once.
+    pub fn most_sends(&self) -> usize {
+        self.correct() * self.types
+    }
+
     /// How many words a run needs.
     pub fn words(&self) -> usize {
         self.stopped() + 1

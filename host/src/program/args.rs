@@ -59,6 +59,8 @@ pub struct Request {
     pub output: Option<PathBuf>,
     /// Whether what a refused schedule left goes there too, and not to standard output.
     pub partial: bool,
+    /// Whether the lines of a run have its receipts and sends too.
+    pub receipts: bool,
     /// Whom the answer is for.
     pub style: Style,
 }
@@ -176,7 +178,7 @@ impl Input {
 const COMMANDS: &str =
     "run, trace, first, translate, draw, undraw, unpack, pack, replay, log, edition, search, check, list";
 const OPTIONS: &str = "--standing, -o, --to, --svg, --png, --of, --all, --board, --from, --trace, --follow, --into, \
-                       --replace, --depth, --budget, --plain, --json, --partial, --help, --version";
+                       --replace, --depth, --budget, --plain, --json, --partial, --receipts, --help, --version";
 
 /// The options that are for some commands alone.
 #[derive(Default)]
@@ -202,7 +204,7 @@ pub fn parse(words: impl Iterator<Item = OsString>) -> Result<Asked, String> {
     let mut words = Words::of(words);
     let mut free = Free::new();
     let (mut standing, mut output, mut into, mut special) = (None, None, None, Special::default());
-    let (mut plain, mut json, mut partial, mut replace) = (false, false, false, false);
+    let (mut plain, mut json, mut partial, mut receipts, mut replace) = (false, false, false, false, false);
     let (mut options_end, mut any) = (false, false);
     while let Some(word) = words.next()? {
         any = true;
@@ -214,6 +216,7 @@ pub fn parse(words: impl Iterator<Item = OsString>) -> Result<Asked, String> {
             "--version" => return Ok(Asked::Version),
             "--plain" => plain = true,
             "--partial" => partial = true,
+            "--receipts" => receipts = true,
             "--json" => json = true,
             "--all" => special.all = true,
             "--of" => {
@@ -249,7 +252,7 @@ pub fn parse(words: impl Iterator<Item = OsString>) -> Result<Asked, String> {
         Some(word) if word == "help" => return Ok(Asked::Help),
         Some(word) => command(&word, &special)?,
     };
-    options_fit(command, partial, standing.is_some())?;
+    options_fit(command, partial, receipts, standing.is_some())?;
     let style = style(command, plain, json)?;
     if let Some(folder) = into {
         let to = match command {
@@ -285,13 +288,16 @@ pub fn parse(words: impl Iterator<Item = OsString>) -> Result<Asked, String> {
         Some(bundle) => (bundle, Some(input)),
         None => (input, None),
     };
-    Ok(Asked::Answer(Request { command, input, log, list, standing, output, partial, style }))
+    Ok(Asked::Answer(Request { command, input, log, list, standing, output, partial, receipts, style }))
 }
 
 // Whether options that several commands have are for this one.
-fn options_fit(command: Command, partial: bool, standing: bool) -> Result<(), String> {
+fn options_fit(command: Command, partial: bool, receipts: bool, standing: bool) -> Result<(), String> {
     if partial && !matches!(command, Command::Run | Command::Trace(_)) {
         return Err("--partial is for run and trace alone".to_string());
+    }
+    if receipts && !matches!(command, Command::Run | Command::Replay(Rows::None)) {
+        return Err("--receipts is for run alone, and for replay without --trace and --follow".to_string());
     }
     if standing && matches!(command, Command::DrawOf(_)) {
         return Err("--of draws a bundle's own table; --standing is for bundles that are run".to_string());

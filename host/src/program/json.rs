@@ -4,7 +4,7 @@ use crate::list::check::Checked;
 use crate::replies::Question;
 use crate::search::{Ended, Limits};
 use crate::trace::Move;
-use macaroosh::calls::{Answer, Step};
+use macaroosh::calls::{Answer, Receipts, Step};
 use macaroosh::parts::{Parts, Picture};
 use macaroosh::{Form, Refusal};
 use std::fmt::{self, Display, Formatter, Write};
@@ -74,10 +74,12 @@ fn quoted(text: &str, to: &mut Formatter) -> fmt::Result {
     to.write_char('"')
 }
 
-/// A run: the answer, and what is left, if something is.
-pub fn run(question: &Question, answer: Answer, left: Option<(&Parts, &[u64])>) -> String {
+/// A run: the answer, its receipts and sends, and what is left, if something is.
+pub fn run(question: &Question, answer: Answer, had: Receipts, left: Option<(&Parts, &[u64])>) -> String {
     let mut fields = head(question, answer.refused());
     fields.push(("accepted", number(answer.count)));
+    fields.push(("receipts", number(had.receipts)));
+    fields.push(("sends", number(had.sends)));
     if let Some((parts, words)) = left {
         let picture = parts.picture(words);
         fields.extend(setting(parts));

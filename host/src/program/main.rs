@@ -39,7 +39,9 @@ use std::process::ExitCode;
 const USAGE: &str = "\
 Macaroosh runs a schedule of steps against a threshold table.
 
-  macaroosh run FILE         show the configuration that the schedule leaves
+  macaroosh run FILE         show the configuration that the schedule leaves,
+                             and how many of its steps receive a message or
+                             send one, of how many at most
   macaroosh trace FILE       show each step: who sent what to whom, the counts
                              after it, and which lines can be exchanged
   macaroosh first FILE       name the first step that is possible after it, or
@@ -100,6 +102,8 @@ counting form leaves them. For each of the six '-' is standard input.
                     that is refused at a step; without it a refused input
                     leaves the file as it was
   --plain           the same answer in numbers, for programs
+  --receipts        with run or replay, and --plain: a line 'receipts R S'
+                    more, for the steps that receive and those that send
   --json            the same answer of run, trace, first, replay, search or
                     check as a JSON object
   --help            this page
@@ -168,7 +172,8 @@ fn reply(request: &Request) -> Result<Reply, String> {
     let plain = request.style == Style::Plain;
     let ask = |answered: &dyn Fn(&Question) -> Result<Reply, String>| {
         let (bundle, standing) = (bundle(&request.input)?, standing()?);
-        answered(&Question { bundle: &bundle, standing: &standing, log: None, list: None, style: request.style })
+        let (style, receipts) = (request.style, request.receipts);
+        answered(&Question { bundle: &bundle, standing: &standing, log: None, list: None, style, receipts })
     };
     match request.command {
         Command::Run => ask(&|question| Ok(replies::run(question))),

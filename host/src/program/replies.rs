@@ -2,7 +2,7 @@
 
 use crate::show::{self, Style};
 use crate::{all, json, list, log, text, why};
-use macaroosh::calls::Answer;
+use macaroosh::calls::{Answer, Receipts};
 use macaroosh::parts::Parts;
 use macaroosh::terms::refusals;
 use macaroosh::{Form, Refusal, MOST_WORDS};
@@ -20,6 +20,8 @@ pub struct Question<'a> {
     pub list: Option<&'a [u8]>,
     /// Whom the answer is for.
     pub style: Style,
+    /// Whether the lines of a run have its receipts and sends too, which people and JSON are always told.
+    pub receipts: bool,
 }
 
 /// The answer to it.
@@ -91,11 +93,18 @@ pub fn run(question: &Question) -> Reply {
 /// The same where the bundle was run already, and has left these words.
 pub fn shown(question: &Question, answer: Answer, words: &[u64]) -> Reply {
     let parts = Parts::of(question.bundle, question.standing).filter(|_| answer.left_a_configuration());
+    let had = match &parts {
+        Some(_) => macaroosh::calls::receipts(question.bundle, question.standing, &mut [0; MOST_WORDS]),
+        None => Receipts { refusal: answer.refusal, place: answer.place, receipts: 0, sends: 0 },
+    };
     let output = match (question.style, &parts) {
-        (Style::Json, _) => json::run(question, answer, parts.as_ref().map(|parts| (parts, words))),
-        (Style::Plain, Some(parts)) => show::result(answer) + &show::lines(&parts.picture(words)),
-        (Style::Plain, None) => show::result(answer),
-        (Style::People, Some(parts)) => show::configuration(parts, &parts.picture(words), answer.count),
+        (Style::Json, _) => json::run(question, answer, had, parts.as_ref().map(|parts| (parts, words))),
+        (Style::Plain, _) => {
+            let lines = parts.as_ref().map_or(String::new(), |parts| show::lines(&parts.picture(words)));
+            let receipts = if question.receipts { show::receipts_line(had) } else { String::new() };
+            show::result(answer) + &lines + &receipts
+        }
+        (Style::People, Some(parts)) => show::configuration(parts, &parts.picture(words), answer.count, had),
         (Style::People, None) => String::new(),
     };
     question.reply(output, answer.refused())

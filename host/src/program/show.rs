@@ -1,7 +1,7 @@
 //! Answers as people read them, and as programs do.
 
 use crate::names::shown;
-use macaroosh::calls::{Answer, First, Step};
+use macaroosh::calls::{Answer, First, Receipts, Step};
 use macaroosh::parts::{Parts, Picture};
 use macaroosh::{Form, Refusal};
 use std::path::Path;
@@ -43,6 +43,11 @@ pub fn sent_line(picture: &Picture) -> String {
 /// The report's line of the stopped boards.
 pub fn stopped_line(picture: &Picture) -> String {
     format!("stopped {}\n", picture.stopped)
+}
+
+/// The line of receipts and sends, which the report has not.
+pub fn receipts_line(had: Receipts) -> String {
+    format!("receipts {} {}\n", had.receipts, had.sends)
 }
 
 /// The first step for programs: `result R P`, then `step B R T S` or `none`.
@@ -152,8 +157,19 @@ pub fn setting(parts: &Parts) -> String {
     format!("{form} form, n = {}, t = {}, f = {}: {boards}", parts.n, parts.t, parts.f)
 }
 
-/// The configuration after so many steps.
-pub fn configuration(parts: &Parts, picture: &Picture, steps: u32) -> String {
+/// How many receipts and sends there were, and how many no run of these boards exceeds.
+fn receipts(parts: &Parts, had: Receipts) -> String {
+    let of = |count: u32, most: usize, thing: &str| {
+        let (count, many) = (grouped(count.into()), grouped(most as u64));
+        format!("{count} of at most {many} {thing}{}", if most == 1 { "" } else { "s" })
+    };
+    let receipts = of(had.receipts, parts.most_receipts(), "receipt");
+    let sends = of(had.sends, parts.most_sends(), "send");
+    format!("{receipts}, {sends}")
+}
+
+/// The configuration after so many steps, and how many of those are receipts and sends.
+pub fn configuration(parts: &Parts, picture: &Picture, steps: u32, had: Receipts) -> String {
     let mut head = vec!["board".to_string(), "state".to_string()];
     head.extend((0..parts.types).map(|m| format!("has type {m}")));
     let mut rows = vec![head];
@@ -168,9 +184,10 @@ pub fn configuration(parts: &Parts, picture: &Picture, steps: u32) -> String {
     rows.push(sent);
     let after = counted(steps as usize, "step");
     format!(
-        "{}\nafter {after}: what each board has ({}), and what was sent\n\n{}",
+        "{}\nafter {after}: what each board has ({}), and what was sent\n{}\n\n{}",
         setting(parts),
         counts_of(parts),
+        receipts(parts, had),
         aligned(&rows, &[1])
     )
 }

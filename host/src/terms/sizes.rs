@@ -9,6 +9,10 @@ pub const MOST_TABLE: usize = 16 * 2 + 64 * 18 + 8;
 /// The most steps that a schedule has.
 pub const MOST_STEPS: usize = 4_096;
 
+/// The most messages that correct boards receive in all, so that a log needs no more lines with one: 64 boards hear 4 types of 64
+/// boards, each once. A schedule is too short to have so many.
+pub const MOST_RECEIPTS: usize = 64 * 4 * 64;
+
 /// The most steps that a search goes deep.
 pub const MOST_DEPTH: u64 = 8;
 

@@ -4,7 +4,6 @@ use crate::library::calls;
 use crate::library::parts::Parts;
 use crate::terms::refusals::Refusal;
 use crate::terms::sizes::MOST_STEPS;
-use crate::typed::configuration::Configuration;
 use crate::typed::run::{Refused, Run};
 
 /// The bundle that a log has made, and its run.
@@ -27,9 +26,11 @@ pub fn replay(bundle: &[u8], standing: &[u8], log: impl AsRef<[u8]>) -> Result<R
     let mut out = vec![0; bundle.len() + 4 * lines];
     let mut words = vec![0; Parts::of(bundle, standing).map_or(0, |parts| parts.words())];
     let answer = calls::replay(bundle, standing, log, &mut out, &mut words);
-    let left = || {
-        let configuration = Configuration::of(&out, standing, &words).expect("a bundle that was read has its words");
-        Replayed { run: Run { steps: answer.count as usize, configuration }, bundle: out.clone() }
+    let mut left = || {
+        // The bundle that was made is run once more, since a replay does not count its receipts.
+        let run = calls::receipts(&out, standing, &mut words);
+        let run = Run::of(&out, standing, run, &words).expect("a bundle that was read has its words");
+        Replayed { run, bundle: out.clone() }
     };
     match answer.refused() {
         None => Ok(left()),

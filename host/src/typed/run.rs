@@ -1,6 +1,6 @@
 //! Running a bundle.
 
-use crate::library::calls;
+use crate::library::calls::{self, Receipts};
 use crate::library::parts::Parts;
 use crate::terms::refusals::Refusal;
 use crate::typed::configuration::Configuration;
@@ -12,8 +12,23 @@ use std::fmt::{self, Display, Formatter};
 pub struct Run {
     /// How many steps were accepted.
     pub steps: usize,
+    /// How many of these receive a message: at most (n - f)·T·n, whatever the schedule, and so at most `MOST_RECEIPTS`.
+    pub receipts: usize,
+    /// How many of these send a new type: at most (n - f)·T.
+    pub sends: usize,
     /// The configuration after them.
     pub configuration: Configuration,
+}
+
+impl Run {
+    // The run of a bundle whose steps were looked at, by what that has answered and the words that it has left.
+    pub(super) fn of(bundle: &[u8], standing: &[u8], answer: Receipts, words: &[u64]) -> Option<Run> {
+        let Receipts { refusal, place, receipts, sends } = answer;
+        // The steps before a refused one, or all.
+        let steps = if refusal == 0 { Parts::of(bundle, standing)?.length() } else { place as usize };
+        let configuration = Configuration::of(bundle, standing, words)?;
+        Some(Run { steps, receipts: receipts as usize, sends: sends as usize, configuration })
+    }
 }
 
 /// A run that is refused, or a replay.
@@ -45,9 +60,8 @@ impl<B> From<Refused<B>> for Refusal {
 pub fn run(bundle: &[u8], standing: &[u8]) -> Result<Run, Refused> {
     // What has no parts is refused before its words are looked at.
     let mut words = vec![0; Parts::of(bundle, standing).map_or(0, |parts| parts.words())];
-    let answer = calls::run(bundle, standing, &mut words);
-    let configuration = || Configuration::of(bundle, standing, &words).expect("a bundle that was read has its words");
-    let left = || Run { steps: answer.count as usize, configuration: configuration() };
+    let answer = calls::receipts(bundle, standing, &mut words);
+    let left = || Run::of(bundle, standing, answer, &words).expect("a bundle that was read has its words");
     match answer.refused() {
         None => Ok(left()),
         Some(refusal) => Err(Refused { refusal, before: answer.left_a_configuration().then(left) }),

@@ -23,6 +23,8 @@ pub struct Case {
     calls: Option<Answer>,
     /// The words that a run leaves.
     pub words: Option<Vec<u64>>,
+    /// Its receipts and sends.
+    pub receipts: Option<[u32; 2]>,
     /// Forms, and the bundle in each.
     pub to: Vec<(u64, Vec<u8>)>,
     /// The first step after it.
@@ -154,6 +156,7 @@ fn said(case: &mut Case, line: &str, named: &BTreeMap<&str, Vec<u8>>) {
             }
         }
         "words" => case.words = Some(words(rest)),
+        "receipts" => case.receipts = Some(numbers(rest)),
         "list" => {
             let (numbers, listed) = first_words(rest, 3);
             case.lists.push(List { answer: answer(&numbers), words: words(listed) });
