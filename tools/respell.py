@@ -14,7 +14,7 @@ import sys
 
 TOKEN = re.compile(r"[^\s(){}\[\];,.«»\"`]+")
 NAME = re.compile(r"[A-Za-z][^\s(){}\[\];,.«»\"`:]*$")
-MADE = ("invariant-", "decreases-", "returns-", "loop-", "overflow_", "bounds-", "slice_bounds-", "cast-", "if-", "in-", "in_", "then-", "else-")
+MADE = ("invariant-", "decreases-", "cast-result")
 # lemmas and a field that stand beside a definition which takes their name
 ASIDE = {n: n + "_lem" for n in ("after_run", "goes_on", "met_at", "no_digit", "one_more")} | {"no_other": "no_other_form"}
 # words of the library that lemmas are named after

@@ -12,7 +12,7 @@ use Rattle.senders.specs.Set.{mem, insert, missing, correct_count, faulty_count}
 use Rattle.senders.proofs.TallyLaws.{and_both, and-made, count-at_most, count-le, count-gap, least-is}
 use Rattle.senders.proofs.SetLaws.{set_laws, count_laws}
 use Rattle.fault.specs.Fault.{◌if◌else◌}
-use Rattle.fault.proofs.FaultLaws.{if-keeps}
+use Rattle.fault.proofs.FaultLaws.{if_keeps}
 use Rattle.fault.specs.Tests.{◌below◌}
 use Rattle.paper.specs.Paper.{Counts, add_tag, passing, counting, plain, column}
 use Rattle.paper.proofs.Cases.{same_or}
@@ -41,11 +41,11 @@ tag_only j C q = refl
 
 tag_class : (C q : ℕ) → tag_of 0 C q < 2
 unfolding tag_of
-tag_class C q = if-keeps (λ (x : ℕ). x < 2) 0 (q below C) 1 (λ e. omega arith) (λ e. omega arith)
+tag_class C q = if_keeps (λ (x : ℕ). x < 2) 0 (q below C) 1 (λ e. omega arith) (λ e. omega arith)
 
 tag-grows : (C q r : ℕ) → q ≤ r → tag_of 0 C q ≤ tag_of 0 C r
 unfolding tag_of
-tag-grows C q r h = if-keeps (λ (x : ℕ). x ≤ tag_of 0 C r) 0 (q below C) 1 (λ e. omega arith) (λ e. omega (arith, tag-faulty C r (omega (arith, ltb-false q C e))))
+tag-grows C q r h = if_keeps (λ (x : ℕ). x ≤ tag_of 0 C r) 0 (q below C) 1 (λ e. omega arith) (λ e. omega (arith, tag-faulty C r (omega (arith, ltb-false q C e))))
 
 -- ---- in transit, in message form
 module _ (C f q M S : ℕ) where

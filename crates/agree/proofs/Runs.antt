@@ -87,23 +87,23 @@ module _ (j : ℕ) (d : Design) (K : Remembers d) where
 
 -- ---- between any two levels: one level further up, and one further down
 module _ (d : Design) (begin : ℕ → List ℕ) (k : ℕ) (ss : List Step) where
-  abbrev in-form : ℕ → List Step
-  in-form i = moved k i d begin ss
+  abbrev in_form : ℕ → List Step
+  in_form i = moved k i d begin ss
 
   -- above its own level a schedule is only tagged, below it only refined
-  pub coarser_only : (i : ℕ) → k ≤ i → in-form i ≡ coarser (i - k) k d.boards ss
+  pub coarser_only : (i : ℕ) → k ≤ i → in_form i ≡ coarser (i - k) k d.boards ss
   unfolding moved finer
   coarser_only i h = let e : k - i ≡ 0 = omega arith in rw e
 
-  pub finer_only : (i : ℕ) → i ≤ k → in-form i ≡ finer (k - i) i d begin ss
+  pub finer_only : (i : ℕ) → i ≤ k → in_form i ≡ finer (k - i) i d begin ss
   unfolding moved coarser
   finer_only i h = let e : i - k ≡ 0 = omega arith in rw e
 
-  pub moved-own : in-form k ≡ ss
+  pub moved-own : in_form k ≡ ss
   unfolding finer
   moved-own = let e : k - k ≡ 0 = omega arith in finer_only k (omega arith) ∙ rw e
 
-  pub moved_up : (i : ℕ) → k ≤ i → in-form (suc i) ≡ map (tagged i d) (in-form i)
+  pub moved_up : (i : ℕ) → k ≤ i → in_form (suc i) ≡ map (tagged i d) (in_form i)
   unfolding coarser
   moved_up i h =
       let e : suc i - k ≡ suc (i - k) = omega arith in
@@ -111,7 +111,7 @@ module _ (d : Design) (begin : ℕ → List ℕ) (k : ℕ) (ss : List Step) wher
       coarser_only (suc i) (omega arith) ∙ ap (λ (n : ℕ). coarser n k d.boards ss) e
       ∙ ap₂ (λ (j : ℕ) (x : List Step). map (tag_by j d.boards) x) f (sym (coarser_only i h))
 
-  pub moved_down : (i : ℕ) → i < k → in-form i ≡ low_all i d (begin i) (in-form (suc i))
+  pub moved_down : (i : ℕ) → i < k → in_form i ≡ low_all i d (begin i) (in_form (suc i))
   unfolding finer
   moved_down i h =
       let e : k - i ≡ suc (k - suc i) = omega arith in

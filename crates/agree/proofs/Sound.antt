@@ -10,7 +10,7 @@ use borrow.Author.Tests.{not-true}
 use Rattle.senders.specs.Set.{mem}
 use Rattle.senders.proofs.TallyLaws.{and_both}
 use Rattle.senders.proofs.SetLaws.{set_laws}
-use Rattle.fault.proofs.FaultLaws.{if-keeps}
+use Rattle.fault.proofs.FaultLaws.{if_keeps}
 use Rattle.paper.specs.Paper.{Design, Conf, Step, newly, Kind, silence, message, kind_of, CanHear, added, Moves}
 use Rattle.paper.specs.Step.{column_of}
 use Rattle.paper.proofs.Cases.{yes_no, same_or}
@@ -83,7 +83,7 @@ module _ (k : ℕ) (d : Design) (K : Remembers d) (s : Step) (σ σ' : Conf (col
       mine : (κ : Kind) → CanHear d (column_of k d) κ (σ.rcvd s.board) σ.sent → Fits m (added (column_of k d) κ (σ.rcvd s.board) m)
       mine silence H = X.within s.board m a.board hm
       mine (message t x) H =
-          if-keeps (Fits m) _ (eqb t m) _ (λ z. (column_laws d.boards d.faulty k).hear x _ _ H.source (coming_at H m z) (X.within s.board m a.board hm))
+          if_keeps (Fits m) _ (eqb t m) _ (λ z. (column_laws d.boards d.faulty k).hear x _ _ H.source (coming_at H m z) (X.within s.board m a.board hm))
           (λ z. X.within s.board m a.board hm)
 
   still-within : (q m : ℕ) → q < d.boards → m < d.types → Within k d.boards d.faulty (σ'.rcvd q m) (σ'.sent m)

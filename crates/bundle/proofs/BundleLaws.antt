@@ -13,7 +13,7 @@ use Rattle.fault.specs.declared.Verdict.{Verdict}
 use Rattle.fault.specs.Bytes.{byte_at, trailer_bytes, step_bytes, most_step_bytes}
 use Rattle.fault.specs.Tests.{◌over◌, ◌at_least◌, ◌at_most◌, ◌differs◌, outside}
 use Rattle.fault.specs.Fault.{refused, first_fault}
-use Rattle.fault.proofs.FaultLaws.{if_yes, if_no, if-passed, then-clean, first-clean, Clean, if-most, Within, check_within, then-within, first-within}
+use Rattle.fault.proofs.FaultLaws.{if_yes, if_no, if_passed, then_clean, first-clean, Clean, if_most, Within, check_within, then_within, first-within}
 use Rattle.fault.proofs.TestLaws.{or-none, inside, same}
 use Rattle.table.specs.Table.{states_of, factor_of, initial_of, most_table}
 use Rattle.table.specs.Refusals.{table_fault}
@@ -134,11 +134,11 @@ few k t n h l m = omega (arith, mul-le-mul_right {m = 1} {n = k} t h, one-mul t)
 read : (table b : List ℕ) → Clean (fault_with table b) → Read table b
 unfolding fault_with schedule_fault start_fault
 read table b h =
-    let p = if-passed Clean (refused 10) (no_trailer b) _ (λ z. omega arith) h in
-    let q = if-passed Clean (refused 11) (out_of_bundle b) _ (λ z. omega arith) p.1 in
-    let r = then-clean (table_fault table) _ q.1 in
-    let s = if-passed Clean (refused 12) (not_admitted (factor_of table) b) _ (λ z. omega arith) r.1 in
-    let u = if-passed Clean (refused 13) (steps_off b) _ (λ z. omega arith) s.1 in
+    let p = if_passed Clean (refused 10) (no_trailer b) _ (λ z. omega arith) h in
+    let q = if_passed Clean (refused 11) (out_of_bundle b) _ (λ z. omega arith) p.1 in
+    let r = then_clean (table_fault table) _ q.1 in
+    let s = if_passed Clean (refused 12) (not_admitted (factor_of table) b) _ (λ z. omega arith) r.1 in
+    let u = if_passed Clean (refused 13) (steps_off b) _ (λ z. omega arith) s.1 in
     let W = well_formed table r.0 in
     let T = trailed b refl p.0 refl q.0 in
     let A = admitted (factor_of table) b s.0 in
@@ -149,7 +149,7 @@ read table b h =
       trailed = T;
       admitted = A;
       parted = parted b T refl u.0;
-      start = λ i l. begins table (byte_at (starts_of b) i) (if-passed (λ (x : ℕ). x ≡ 0) 14 _ 0 (λ z. omega arith) (first-clean (start_fault table (starts_of b)) (correct_of b) u.1 i l)).0;
+      start = λ i l. begins table (byte_at (starts_of b) i) (if_passed (λ (x : ℕ). x ≡ 0) 14 _ 0 (λ z. omega arith) (first-clean (start_fault table (starts_of b)) (correct_of b) u.1 i l)).0;
       few_tolerated = t;
       some_correct = omega (arith, l, A.faulty);
       all = omega (arith, l, A.faulty);
@@ -166,7 +166,7 @@ read_by {v} {t} b st e z q = rw q (read (table_in_use b st) b (ap (λ (x : Verdi
 module _ (table b : List ℕ) where
   start_most : (p : ℕ) → start_fault table (starts_of b) p ≤ 14
   unfolding start_fault
-  start_most p = if-most _ (omega arith) (omega arith)
+  start_most p = if_most _ (omega arith) (omega arith)
 
   schedule-within : Within 14 64 (schedule_fault table b)
   unfolding schedule_fault
@@ -176,7 +176,7 @@ module _ (table b : List ℕ) where
 
   pub read-within : Within 14 64 (fault_with table b)
   unfolding fault_with
-  read-within = check_within _ (omega arith) (λ _. check_within _ (omega arith) (λ _. then-within (table-within table) schedule-within))
+  read-within = check_within _ (omega arith) (λ _. check_within _ (omega arith) (λ _. then_within (table-within table) schedule-within))
 
 -- ---- a bundle that is read is no longer than its parts can be
 pub read_short : (b st : List ℕ) → Read (table_in_use b st) b → length b ≤ most_bundle

@@ -7,7 +7,7 @@ use lib.ListN.{length}
 use borrow.Author.Tests.{ne_eqb, ltb-true, lt-ltb}
 use Rattle.fault.specs.Tests.{◌below◌}
 use Rattle.fault.specs.Fault.{◌if◌else◌}
-use Rattle.fault.proofs.FaultLaws.{if-keeps}
+use Rattle.fault.proofs.FaultLaws.{if_keeps}
 use Rattle.fault.specs.declared.Answer.{Answer}
 use Rattle.bundle.specs.Bundle.{most_bundle}
 use Rattle.engine.specs.Entry.{run_answer}
@@ -90,7 +90,7 @@ to_first_fits : (s : List ℕ) (lent : ℕ) → Fits (to_first_answer s lent)
 to_first_fits s lent = given-fits (omega arith) (omega arith) (omega arith) (first-within s lent)
 
 capped-place : (p : ℕ) → (p if p below 2 ^ 24 else 2 ^ 24 - 1) < 2 ^ 24
-capped-place p = if-keeps (λ (x : ℕ). x < 2 ^ 24) p (p below 2 ^ 24) (2 ^ 24 - 1) (λ e. ltb-true p (2 ^ 24) e) (λ _. omega arith)
+capped-place p = if_keeps (λ (x : ℕ). x < 2 ^ 24) p (p below 2 ^ 24) (2 ^ 24 - 1) (λ e. ltb-true p (2 ^ 24) e) (λ _. omega arith)
 
 undraw_fits : (t : List ℕ) (lent : ℕ) → Fits (capped (undraw_answer t lent))
 unfolding capped

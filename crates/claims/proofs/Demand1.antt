@@ -11,7 +11,7 @@ use lib.ListN.{length, drop, length-append, length-drop}
 use lib.Seq.{drop-append_seam}
 use Rattle.fault.specs.Fault.{refused, nothing_done, ◌if◌else◌}
 use Rattle.fault.specs.declared.Answer.{Answer}
-use Rattle.fault.proofs.FaultLaws.{if-keeps, if_yes, if_no}
+use Rattle.fault.proofs.FaultLaws.{if_keeps, if_yes, if_no}
 use Rattle.bundle.specs.Bundle.{table_in_use}
 use Rattle.bundle.specs.Refusals.{read_fault}
 use Rattle.bundle.proofs.BundleLaws.{read_by, read-within}
@@ -37,7 +37,7 @@ abbrev OfStepOrNone : ℕ → Type 0
 OfStepOrNone n = (n ≡ 0 → ⊥) → OfStep n
 
 number-or : (x : ℕ) (t : Bool) (rest : ℕ) → OfStep x → OfStepOrNone rest → OfStepOrNone (x if t else rest)
-number-or x t rest o r = if-keeps OfStepOrNone x t rest (λ _ _. o) (λ _. r)
+number-or x t rest o r = if_keeps OfStepOrNone x t rest (λ _ _. o) (λ _. r)
 
 of_take : (k : ℕ) (d : Design) (w : List ℕ) (s : Step) → OfStepOrNone (take_fault k d w s)
 unfolding take_fault
@@ -52,7 +52,7 @@ unfolding step_fault stop_fault
 of_step k d w s =
     number-or 20 _ _ (omega arith, omega arith)
     (number-or 26 _ _ (omega arith, omega arith)
-    (if-keeps OfStepOrNone _ (is_stop s) _ (λ _. number-or 23 _ _ (omega arith, omega arith) (number-or 27 _ _ (omega arith, omega arith) (λ n. absurd (n refl)))) (λ _. of_take k d w s)))
+    (if_keeps OfStepOrNone _ (is_stop s) _ (λ _. number-or 23 _ _ (omega arith, omega arith) (number-or 27 _ _ (omega arith, omega arith) (λ n. absurd (n refl)))) (λ _. of_take k d w s)))
 
 module _ (b standing lent : List ℕ) where
   -- ---- nothing done: the number is none of a step's, and no run is told of

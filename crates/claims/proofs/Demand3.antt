@@ -13,7 +13,7 @@ use Rattle.fault.specs.declared.Verdict.{Verdict}
 use Rattle.fault.specs.declared.Answer.{Answer}
 use Rattle.fault.specs.Tests.{◌below◌, ◌differs◌}
 use Rattle.fault.specs.Fault.{refused, nothing_done, ◌if◌else◌}
-use Rattle.fault.proofs.FaultLaws.{if_yes, if_no, if-keeps}
+use Rattle.fault.proofs.FaultLaws.{if_yes, if_no, if_keeps}
 use Rattle.fault.proofs.TestLaws.{same}
 use Rattle.table.specs.Table.{types_of, rules_of}
 use Rattle.bundle.specs.Bundle.{n_of, t_of, f_of, form_of, correct_of, table_in_use, level_of}
@@ -403,10 +403,10 @@ Other a = a.refusal ≡ 31 → ⊥
 never_31 : (b standing : List ℕ) (lent : ℕ) → (translate_answer b standing lent).refusal ≡ 31 → ⊥
 unfolding translate_to_answer wrote
 never_31 b standing lent =
-    if-keeps Other _ ((read_fault b standing).number differs 0) _ (λ _ e. absurd (omega (arith, e, (read-within (table_in_use b standing) b).number)))
-    (λ f. if-keeps Other _ (no_other b (usual b)) _ (λ o e. true≢false (sym o ∙ usual_other b))
-    (λ _. if-keeps Other _ (lent below length b) _ (λ _ e. absurd (omega arith))
-    (λ _. if-keeps Other _ (eqb (ran_of b standing).refusal 0) _ (λ _ e. absurd (omega arith))
+    if_keeps Other _ ((read_fault b standing).number differs 0) _ (λ _ e. absurd (omega (arith, e, (read-within (table_in_use b standing) b).number)))
+    (λ f. if_keeps Other _ (no_other b (usual b)) _ (λ o e. true≢false (sym o ∙ usual_other b))
+    (λ _. if_keeps Other _ (lent below length b) _ (λ _ e. absurd (omega arith))
+    (λ _. if_keeps Other _ (eqb (ran_of b standing).refusal 0) _ (λ _ e. absurd (omega arith))
     (λ _ e. absurd (omega (arith, e, (ran-within (table_in_use b standing) b (read_by b standing refl (same _ 0 f) refl)).refusal))))))
 
 pub demand3 : Demand3

@@ -13,7 +13,7 @@ use Rattle.fault.specs.declared.Answer.{Answer}
 use Rattle.fault.specs.Bytes.{trailer_of}
 use Rattle.fault.specs.Tests.{◌below◌, ◌differs◌}
 use Rattle.fault.specs.Fault.{refused, nothing_done, ◌if◌else◌}
-use Rattle.fault.proofs.FaultLaws.{if-keeps}
+use Rattle.fault.proofs.FaultLaws.{if_keeps}
 use Rattle.layout.specs.Layout.{types_in}
 use Rattle.table.specs.Table.{states_of, rules_of, types_byte, factor_of, records_bytes}
 use Rattle.table.specs.Refusals.{counts_outside, table_fault}
@@ -39,8 +39,8 @@ use Rattle.claims.proofs.DrawnTable.{Later, later_0, later_2, later_above, recor
 given-later : (v : Verdict) (w : List ℕ) → Later v.number → (lent : ℕ) → Later (given 61 v w lent).refusal
 unfolding given
 given-later v w h lent =
-    if-keeps (λ (a : Answer). Later a.refusal) (nothing_done v) (v.number differs 0) _ (λ _. h)
-    (λ _. if-keeps (λ (a : Answer). Later a.refusal) (nothing_done (refused 61)) (lent below length w) _ (λ _. later_above 61 (omega arith) (λ z. omega arith)) (λ _. later_0))
+    if_keeps (λ (a : Answer). Later a.refusal) (nothing_done v) (v.number differs 0) _ (λ _. h)
+    (λ _. if_keeps (λ (a : Answer). Later a.refusal) (nothing_done (refused 61)) (lent below length w) _ (λ _. later_above 61 (omega arith) (λ z. omega arith)) (λ _. later_0))
 
 -- ---- a text by what it is read as
 module _ (t : List ℕ) (o : Outcome) (e : reading t ≡ o) where
@@ -87,7 +87,7 @@ module _ (r : Gathered) where
   read-later : length r.body ≡ records_bytes r.states r.rules r.types → Later (drawn_fault (drawn r)).number
   unfolding drawn_fault table_of
   read-later l =
-      if-keeps (λ (v : Verdict). Later v.number) (refused 2) (counts_outside r.states r.rules (types_in r.types) r.factor) (table_fault (table_of r)) (λ _. later_2)
+      if_keeps (λ (v : Verdict). Later v.number) (refused 2) (counts_outside r.states r.rules (types_in r.types) r.factor) (table_fault (table_of r)) (λ _. later_2)
       (λ h. rw (made_records r.body r.states r.rules r.types r.factor l h) (records_later (table_of r)))
 
 -- a text read as the table s, whose counts are a table's

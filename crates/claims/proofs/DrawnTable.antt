@@ -12,7 +12,7 @@ use Rattle.fault.specs.declared.Verdict.{Verdict}
 use Rattle.fault.specs.Bytes.{byte_at}
 use Rattle.fault.specs.Tests.{◌differs◌, outside}
 use Rattle.fault.specs.Fault.{fine, verdict, refused, ◌if◌else◌, ◌▹◌, first_fault}
-use Rattle.fault.proofs.FaultLaws.{if-keeps, if-passed, Clean}
+use Rattle.fault.proofs.FaultLaws.{if_keeps, if_passed, Clean}
 use Rattle.fault.proofs.TestLaws.{or-none, same}
 use Rattle.layout.specs.Layout.{types_in, rule_bytes}
 use Rattle.table.specs.Table.{state_distance, rule_distance, states_of, rules_of, types_byte, types_of, factor_of, rule_size, records_bytes}
@@ -36,9 +36,9 @@ later_2 = record { not_1 = λ z. omega arith; not_3 = λ z. omega arith; not_60 
 pub later_above : (k : ℕ) → 4 ≤ k → (k ≡ 60 → ⊥) → Later k
 later_above k h n = record { not_1 = λ z. omega arith; not_3 = λ z. omega arith; not_60 = n }
 
-then-later : (v w : Verdict) → Later v.number → Later w.number → Later (v ▹ w).number
+then_later : (v w : Verdict) → Later v.number → Later w.number → Later (v ▹ w).number
 unfolding ◌▹◌
-then-later v w a b = go (eqb v.number 0)
+then_later v w a b = go (eqb v.number 0)
   where
     go : (t : Bool) → Later (cond t w v).number
     go true = b
@@ -48,25 +48,25 @@ first-later : (f : ℕ → ℕ) → ((i : ℕ) → Later (f i)) → (n : ℕ) �
 unfolding first_fault
 first-later f h zero = later_0
 first-later f h (suc n) =
-    then-later (first_fault f n) _ (first-later f h n)
-    (if-keeps (λ (v : Verdict). Later v.number) fine (eqb (f n) 0) (verdict (f n) n) (λ _. later_0) (λ _. h n))
+    then_later (first_fault f n) _ (first-later f h n)
+    (if_keeps (λ (v : Verdict). Later v.number) fine (eqb (f n) 0) (verdict (f n) n) (λ _. later_0) (λ _. h n))
 
 module _ (s : List ℕ) where
   state-later : (i : ℕ) → Later (state_fault s i)
   unfolding state_fault
-  state-later i = if-keeps Later 4 (state_off s i) 0 (λ _. later_above 4 (omega arith) (λ z. omega arith)) (λ _. later_0)
+  state-later i = if_keeps Later 4 (state_off s i) 0 (λ _. later_above 4 (omega arith) (λ z. omega arith)) (λ _. later_0)
 
   rule-later : (r : ℕ) → Later (rule_fault s r)
   unfolding rule_fault
   rule-later r =
-      if-keeps Later 6 (no_state s r) _ (λ _. later_above 6 (omega arith) (λ z. omega arith))
-      (λ _. if-keeps Later 9 (divisor_off s r) _ (λ _. later_above 9 (omega arith) (λ z. omega arith))
-      (λ _. if-keeps Later 7 (forgets s r) _ (λ _. later_above 7 (omega arith) (λ z. omega arith))
-      (λ _. if-keeps Later 8 (sends_two s r) 0 (λ _. later_above 8 (omega arith) (λ z. omega arith)) (λ _. later_0))))
+      if_keeps Later 6 (no_state s r) _ (λ _. later_above 6 (omega arith) (λ z. omega arith))
+      (λ _. if_keeps Later 9 (divisor_off s r) _ (λ _. later_above 9 (omega arith) (λ z. omega arith))
+      (λ _. if_keeps Later 7 (forgets s r) _ (λ _. later_above 7 (omega arith) (λ z. omega arith))
+      (λ _. if_keeps Later 8 (sends_two s r) 0 (λ _. later_above 8 (omega arith) (λ z. omega arith)) (λ _. later_0))))
 
   pub records_later : Later (records_fault s).number
   unfolding records_fault
   records_later =
-      then-later (first_fault (state_fault s) (states_of s)) _ (first-later (state_fault s) state-later (states_of s))
-      (if-keeps (λ (v : Verdict). Later v.number) (refused 5) (no_initial s) (first_fault (rule_fault s) (rules_of s))
+      then_later (first_fault (state_fault s) (states_of s)) _ (first-later (state_fault s) state-later (states_of s))
+      (if_keeps (λ (v : Verdict). Later v.number) (refused 5) (no_initial s) (first_fault (rule_fault s) (rules_of s))
       (λ _. later_above 5 (omega arith) (λ z. omega arith)) (λ _. first-later (rule_fault s) rule-later (rules_of s)))

@@ -14,7 +14,7 @@ use Rattle.fault.specs.declared.Answer.{Answer}
 use Rattle.fault.specs.Bytes.{byte_at, u16_at, trailer_bytes, trailer_of}
 use Rattle.fault.specs.Tests.{◌differs◌}
 use Rattle.fault.specs.Fault.{fine, refused, ◌if◌else◌, ◌▹◌, first_fault}
-use Rattle.fault.proofs.FaultLaws.{Clean, then-pass, first-none}
+use Rattle.fault.proofs.FaultLaws.{Clean, then_pass, first-none}
 use Rattle.threshold.specs.declared.Weights.{Weights}
 use Rattle.threshold.specs.Threshold.{threshold_of}
 use Rattle.layout.specs.Layout.{second, second_of, types_in, weights_of, divisor_at, weights_at}
@@ -118,7 +118,7 @@ first_one s r m h = q7.first_edition s r m h
 -- nothing is refused where all is right
 second-fine : (s : List ℕ) → Clean (table_fault s) → types_byte s < second → (to_second_fault s).number ≡ 0
 unfolding to_second_fault ◌if◌else◌
-second-fine s c h = ap (λ (v : Verdict). v.number) (sym (then-pass refl c refl)) ∙ rw (lt-leb second (types_byte s) h)
+second-fine s c h = ap (λ (v : Verdict). v.number) (sym (then_pass refl c refl)) ∙ rw (lt-leb second (types_byte s) h)
 
 no_rule : (s : List ℕ) → ((r m : ℕ) → r < rules_of s → m < types_of s → (weights_for s r m).e ≡ 1) → (n : ℕ) → n ≤ rules_of s → first_fault (rule_divides s) n ≡ fine
 unfolding some first_fault rule_divides ◌if◌else◌ ◌▹◌
@@ -137,7 +137,7 @@ no_rule s one (suc n) h =
 first_fine : (s : List ℕ) → Clean (table_fault s) → second ≤ types_byte s → ((r m : ℕ) → r < rules_of s → m < types_of s → (weights_for s r m).e ≡ 1) → (to_first_fault s).number ≡ 0
 unfolding to_first_fault ◌if◌else◌
 first_fine s c h one =
-    ap (λ (v : Verdict). v.number) (sym (then-pass refl c (then-pass (sym (no_rule s one (rules_of s) (omega arith))) refl refl))) ∙ rw (le-leb second (types_byte s) h)
+    ap (λ (v : Verdict). v.number) (sym (then_pass refl c (then_pass (sym (no_rule s one (rules_of s) (omega arith))) refl refl))) ∙ rw (le-leb second (types_byte s) h)
 
 -- ---- both ways, by the types byte
 module _ (s : List ℕ) (T : Table s) (byte : ℕ) (t : types_in byte ≡ types_of s) (one : (r m : ℕ) → r < rules_of s → m < types_of s → (weights_for s r m).e ≡ 1) where

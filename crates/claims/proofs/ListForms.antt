@@ -13,7 +13,7 @@ use lib.Seq.{take_all}
 use borrow.Author.Tests.{eqb-true}
 use Rattle.fault.specs.Fault.{◌if◌else◌}
 use Rattle.fault.specs.declared.Answer.{Answer}
-use Rattle.fault.proofs.FaultLaws.{if-keeps}
+use Rattle.fault.proofs.FaultLaws.{if_keeps}
 use Rattle.table.specs.Table.{types_of, rules_of}
 use Rattle.bundle.specs.Bundle.{form_of, level_of, starts_of, table_in_use}
 use Rattle.bundle.specs.Facts.{Read}
@@ -79,7 +79,7 @@ module _ (b standing l : List ℕ) (P : Proves b standing l) where
   unfolding run_by
   stays [] n w M = M
   stays (s ∷ ss) n w M =
-      if-keeps (λ (r : RanBy (List ℕ)). Listed r.left) _ (eqb (step_fault 1 d w s) 0) _ (λ e. stays ss n.1 (stepped 1 d w s) (leads w s M n.0 (eqb-true _ 0 e))) (λ _. M)
+      if_keeps (λ (r : RanBy (List ℕ)). Listed r.left) _ (eqb (step_fault 1 d w s) 0) _ (λ e. stays ss n.1 (stepped 1 d w s) (leads w s M n.0 (eqb-true _ 0 e))) (λ _. M)
 
   quiet_at : (w : List ℕ) → Listed w → NoneAccepts d w
   quiet_at w M = subst (NoneAccepts d) M.is (P.quiet M.place M.below)

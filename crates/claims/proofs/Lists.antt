@@ -13,7 +13,7 @@ use Rattle.fault.specs.declared.Verdict.{Verdict}
 use Rattle.fault.specs.declared.Answer.{Answer}
 use Rattle.fault.specs.Tests.{◌over◌, ◌differs◌}
 use Rattle.fault.specs.Fault.{refused, nothing_done, first_fault, ◌if◌else◌, ◌▹◌}
-use Rattle.fault.proofs.FaultLaws.{Clean, if_yes, if_no, if-passed, then-stop, then-pass, then-clean}
+use Rattle.fault.proofs.FaultLaws.{Clean, if_yes, if_no, if_passed, then_stop, then_pass, then_clean}
 use Rattle.fault.proofs.TestLaws.{or-none, same}
 use Rattle.table.specs.Table.{states_of}
 use Rattle.bundle.specs.Bundle.{form_of, correct_of, steps_of, table_in_use}
@@ -82,7 +82,7 @@ module _ (b standing l : List ℕ) where
       go (no n) = sym (ap (λ (x : Answer). x.refusal) (answer-refused refl n)) ∙ h
 
   at-reading : ((read_fault b standing).number ≡ 0 → ⊥) → a ≡ nothing_done (read_fault b standing)
-  at-reading n = answer-refused (then-stop _ refl n ∙ sym (list_fault_lem b standing l)) n
+  at-reading n = answer-refused (then_stop _ refl n ∙ sym (list_fault_lem b standing l)) n
 
   -- ---- listed
   to_member : (w : List ℕ) → is_listed z l w ≡ true → Member b standing l w
@@ -133,7 +133,7 @@ module _ (b standing l : List ℕ) where
         )
 
     not_fit : (Fit b standing l → ⊥) → a ≡ refusal_at 70 0
-    not_fit n = answer-refused (then-pass refl r (if_yes _ refl refl (go unfit refl)) ∙ sym (list_fault_lem b standing l)) (λ e. absurd (omega arith))
+    not_fit n = answer-refused (then_pass refl r (if_yes _ refl refl (go unfit refl)) ∙ sym (list_fault_lem b standing l)) (λ e. absurd (omega arith))
       where
         go : (t : Bool) → unfit ≡ t → unfit ≡ true
         go true e = e
@@ -183,24 +183,24 @@ module _ (b standing l : List ℕ) where
 
   module _ (F : Fit b standing l) where
     past_fit : {u : Verdict} → u ≡ words → u ≡ v
-    past_fit e = then-pass refl F.read (if_no _ refl (fit_is F.read F) e) ∙ sym (list_fault_lem b standing l)
+    past_fit e = then_pass refl F.read (if_no _ refl (fit_is F.read F) e) ∙ sym (list_fault_lem b standing l)
 
     at_order : (i : ℕ) → suc i < many → (Upward b standing l i → ⊥) → ((j : ℕ) → j < i → Upward b standing l j) → a ≡ refusal_at 70 (suc i)
     unfolding words_fault
     at_order i h q f =
-        answer-refused (past_fit (then-stop from_range (asks-lowest (asks-order z l many) (omega arith) (suc i) h q (order_before i f)) (λ e. absurd (omega arith)))) (λ e. absurd (omega arith))
+        answer-refused (past_fit (then_stop from_range (asks-lowest (asks-order z l many) (omega arith) (suc i) h q (order_before i f)) (λ e. absurd (omega arith)))) (λ e. absurd (omega arith))
 
     module _ (U : AllUpward b standing l) where
       past_order : {u : Verdict} → u ≡ from_range → u ≡ v
       unfolding words_fault
-      past_order e = past_fit (then-pass (sym (asks-fine (asks-order z l many) (in_order U))) refl e)
+      past_order e = past_fit (then_pass (sym (asks-fine (asks-order z l many) (in_order U))) refl e)
 
       at_range : (i : ℕ) → Lowest many (λ j. InRange b standing (words_of j)) i → a ≡ refusal_at 71 i
-      at_range i L = answer-refused (past_order (then-stop from_start (asks-lowest asks_range (omega arith) i L.below L.fails L.before) (λ e. absurd (omega arith)))) (λ e. absurd (omega arith))
+      at_range i L = answer-refused (past_order (then_stop from_start (asks-lowest asks_range (omega arith) i L.below L.fails L.before) (λ e. absurd (omega arith)))) (λ e. absurd (omega arith))
 
       module _ (I : AllInRange b standing l) where
         past_range : {u : Verdict} → u ≡ from_start → u ≡ v
-        past_range e = past_order (then-pass (sym (asks-fine asks_range I)) refl e)
+        past_range e = past_order (then_pass (sym (asks-fine asks_range I)) refl e)
 
         at_start : (HasStart b standing l → ⊥) → a ≡ refusal_at 72 0
         at_start n = answer-refused (past_range (if_yes last refl refl (ap not (go (is_listed z l start) refl)))) (λ e. absurd (omega arith))
@@ -214,11 +214,11 @@ module _ (b standing l : List ℕ) where
           past_start e = past_range (if_no (refused 72) refl (ap not (from_member start H)) e)
 
           at_out : (i : ℕ) → Lowest many (λ j. ClosedAt b standing l (words_of j)) i → a ≡ refusal_at 73 i
-          at_out i L = answer-refused (past_start (then-stop _ (asks-lowest (asks_out F.read) (omega arith) i L.below L.fails L.before) (λ e. absurd (omega arith)))) (λ e. absurd (omega arith))
+          at_out i L = answer-refused (past_start (then_stop _ (asks-lowest (asks_out F.read) (omega arith) i L.below L.fails L.before) (λ e. absurd (omega arith)))) (λ e. absurd (omega arith))
 
           module _ (K : Closed b standing l) where
             past_out : {u : Verdict} → u ≡ first_fault (accept_fault d z l) many → u ≡ v
-            past_out e = past_start (then-pass (sym (asks-fine (asks_out F.read) K)) refl e)
+            past_out e = past_start (then_pass (sym (asks-fine (asks_out F.read) K)) refl e)
 
             at_accept : (i : ℕ) → Lowest many (λ j. NoneAccepts d (words_of j)) i → a ≡ refusal_at 74 i
             at_accept i L = answer-refused (past_out (asks-lowest asks_accept (omega arith) i L.below L.fails L.before)) (λ e. absurd (omega arith))
@@ -230,16 +230,16 @@ module _ (b standing l : List ℕ) where
   proves : a.refusal ≡ 0 → Proves b standing l
   unfolding words_fault
   proves h =
-      let x = then-clean (read_fault b standing) _ (ap (λ (u : Verdict). u.number) (sym (list_fault_lem b standing l)) ∙ answer-clean h) in
-      let f = if-passed Clean (refused 70) (unfit_in b z l) words (λ e. absurd (omega arith)) x.1 in
-      let o = then-clean (first_fault (order_fault z l) many) from_range f.1 in
-      let g = then-clean (first_fault (range_fault d S z l) many) from_start o.1 in
-      let s = if-passed Clean (refused 72) (not (is_listed z l start)) last (λ e. absurd (omega arith)) g.1 in
-      let c = then-clean (first_fault (out_fault d z l) many) (first_fault (accept_fault d z l) many) s.1 in
+      let x = then_clean (read_fault b standing) _ (ap (λ (u : Verdict). u.number) (sym (list_fault_lem b standing l)) ∙ answer-clean h) in
+      let f = if_passed Clean (refused 70) (unfit_in b z l) words (λ e. absurd (omega arith)) x.1 in
+      let o = then_clean (first_fault (order_fault z l) many) from_range f.1 in
+      let g = then_clean (first_fault (range_fault d S z l) many) from_start o.1 in
+      let s = if_passed Clean (refused 72) (not (is_listed z l start)) last (λ e. absurd (omega arith)) g.1 in
+      let c = then_clean (first_fault (out_fault d z l) many) (first_fault (accept_fault d z l) many) s.1 in
       record {
         fit = is-fit x.0 f.0;
         upward = λ i h. asks-all (asks-order z l many) o.0 (suc i) h;
-        in-range = asks-all asks_range g.0;
+        in_range = asks-all asks_range g.0;
         has_start = to_member start (not-false _ s.0);
         closed = asks-all (asks_out x.0) c.0;
         quiet = asks-all asks_accept c.1;
@@ -254,7 +254,7 @@ module _ (b standing l : List ℕ) where
     start = at_start;
     outside = at_out;
     accepting = at_accept;
-    accepted = λ P. at_end_lem P.fit P.upward P.in-range P.has_start P.closed P.quiet;
+    accepted = λ P. at_end_lem P.fit P.upward P.in_range P.has_start P.closed P.quiet;
     accepted_only = proves;
   }
 

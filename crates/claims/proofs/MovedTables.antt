@@ -12,7 +12,7 @@ use borrow.Author.Tests.{lt-leb, le-leb}
 use Rattle.fault.specs.Bytes.{byte_at, trailer_bytes, trailer_of}
 use Rattle.fault.specs.declared.Verdict.{Verdict}
 use Rattle.fault.specs.Fault.{refused, ◌if◌else◌}
-use Rattle.fault.proofs.FaultLaws.{if-passed, Clean}
+use Rattle.fault.proofs.FaultLaws.{if_passed, Clean}
 use Rattle.threshold.specs.declared.Weights.{Weights}
 use Rattle.layout.specs.Layout.{second_of, types_in, end_bytes, type_bytes, weight_bytes, rule_bytes, divisor_at, weights_at, weights_of}
 use Rattle.layout.proofs.LayoutLaws.{weights-inside}
@@ -32,9 +32,9 @@ use Rattle.same.proofs.Tables.{records_same}
 records_clean : (s : List ℕ) → Clean (table_fault s) → (records_fault s).number ≡ 0
 unfolding table_fault
 records_clean s h =
-    let a = if-passed Clean (refused 1) (too_short s) _ (λ z. omega arith) h in
-    let b = if-passed Clean (refused 2) (counts_off s) _ (λ z. omega arith) a.1 in
-    (if-passed Clean (refused 3) (distances_off s) _ (λ z. omega arith) b.1).1
+    let a = if_passed Clean (refused 1) (too_short s) _ (λ z. omega arith) h in
+    let b = if_passed Clean (refused 2) (counts_off s) _ (λ z. omega arith) a.1 in
+    (if_passed Clean (refused 3) (distances_off s) _ (λ z. omega arith) b.1).1
 
 -- ---- what is written of a type is read back
 type-back : (byte at : ℕ) (w : Weights) (rec rest : List ℕ) → ((k : ℕ) → byte_at rec (at + k) ≡ byte_at (bytes_in byte w ++ rest) k) → (second_of byte ≡ false → w.e ≡ 1) → weights_at byte rec at ≡ w

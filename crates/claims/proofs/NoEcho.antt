@@ -32,7 +32,7 @@ use Rattle.paper.proofs.StepLaws.{step-related, length-stepped}
 use Rattle.agree.specs.Picture.{Remembers, Within, Sound}
 use Rattle.agree.proofs.Sound.{heard-within, still-sound, sound-same}
 use Rattle.agree.proofs.Runs.{sound-start}
-use Rattle.fault.proofs.FaultLaws.{if-passed, if_yes, if_no}
+use Rattle.fault.proofs.FaultLaws.{if_passed, if_yes, if_no}
 use Rattle.bundle.specs.Bundle.{t_of, f_of, form_of, correct_of, table_in_use, starts_of, level_of}
 use Rattle.bundle.specs.Refusals.{read_fault}
 use Rattle.bundle.specs.Facts.{Read}
@@ -360,7 +360,7 @@ module _ (table : List ℕ) (E : SameTable echo_table table) (b standing : List 
   module _ (p r m q : ℕ) (h : first_answer b standing ≡ First.Step p r m q) where
     after_run_lem : (read_fault b standing).number ≡ 0 → answer_of (first level design left) ≡ First.Step p r m q
     unfolding after_run
-    after_run_lem z = (if-passed (λ (a : First). a ≡ First.Step p r m q) _ _ _ (refused_no_step _ _ p r m q) (read-on z ∙ h)).1
+    after_run_lem z = (if_passed (λ (a : First). a ≡ First.Step p r m q) _ _ _ (refused_no_step _ _ p r m q) (read-on z ∙ h)).1
 
     F : (read_fault b standing).number ≡ 0 → FirstPossible level design left
     F z = first_possible level design left (omega (arith, (read z).formed.sized.few_rules))

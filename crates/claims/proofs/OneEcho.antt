@@ -11,9 +11,9 @@ use Rattle.echo.specs.Echo.{asking, one_echo}
 use Rattle.figures.proofs.Outline.{one-enough-holds}
 use Rattle.claims.specs.NoEcho.{beside, InV0, whole, NoEcho}
 
-in-V0 : InV0 (asking 0) (one_echo 1 0 3) (asking 0)
+in_V0 : InV0 (asking 0) (one_echo 1 0 3) (asking 0)
 unfolding front_length starts_of
-in-V0 = record { uses = beside refl refl; starts = λ p _. zeros p }
+in_V0 = record { uses = beside refl refl; starts = λ p _. zeros p }
   where
     zeros : (p : ℕ) → get_or (starts_of (one_echo 1 0 3)) p 0 ≡ 0
     zeros zero = refl
@@ -25,5 +25,5 @@ pub one-enough : NoEcho (asking 0) → ⊥
 unfolding state
 one-enough N =
     let e : ◌≡◌ {A = ℕ} 2 0 =
-    sym (ap (λ (w : List ℕ). get_or w 0 0) one-enough-holds.1) ∙ (N.runs (one_echo 1 0 3) (asking 0) (replicate 8 9) in-V0 (whole (ap (λ (a : Answer). a.refusal) one-enough-holds.0))).states 0 (omega arith) in
+    sym (ap (λ (w : List ℕ). get_or w 0 0) one-enough-holds.1) ∙ (N.runs (one_echo 1 0 3) (asking 0) (replicate 8 9) in_V0 (whole (ap (λ (a : Answer). a.refusal) one-enough-holds.0))).states 0 (omega arith) in
     omega arith

@@ -12,7 +12,7 @@ use Rattle.fault.specs.Bytes.{step_bytes}
 use Rattle.fault.specs.Fault.{verdict, fine, refused}
 use Rattle.fault.specs.declared.Verdict.{Verdict}
 use Rattle.fault.specs.declared.Answer.{Answer}
-use Rattle.fault.proofs.FaultLaws.{if_yes, if_no, then-stop, then-pass}
+use Rattle.fault.proofs.FaultLaws.{if_yes, if_no, then_stop, then_pass}
 use Rattle.bundle.specs.Bundle.{form_of, table_in_use, level_of}
 use Rattle.bundle.specs.Refusals.{read_fault}
 use Rattle.bundle.proofs.BundleLaws.{read_by, read-within, level-same}
@@ -45,7 +45,7 @@ use Rattle.claims.proofs.Demand2.{ran-sized}
 use Rattle.claims.proofs.FirstCall.{few_rules}
 use Rattle.claims.proofs.Demand3.{own, translated}
 use Rattle.claims.proofs.SearchOrder.{first_no_waits, first_no_stops, none_before}
-use Rattle.claims.proofs.SearchForms.{in-each-form}
+use Rattle.claims.proofs.SearchForms.{in_each_form}
 
 -- ---- the checks in their order
 data Faulted (b standing : List ℕ) (depth lent : ℕ) : Verdict → Type 0 where
@@ -62,34 +62,34 @@ module _ (b standing : List ℕ) (depth lent : ℕ) where
 
   at-reading : ((read_fault b standing).number ≡ 0 → ⊥) → read_fault b standing ≡ fault
   unfolding search_fault
-  at-reading n = then-stop _ refl n
+  at-reading n = then_stop _ refl n
 
   module _ (z : (read_fault b standing).number ≡ 0) where
     too_deep : most_depth < depth → refused 34 ≡ fault
     unfolding search_fault
-    too_deep l = then-pass refl z (if_yes _ refl refl (lt-ltb most_depth depth l))
+    too_deep l = then_pass refl z (if_yes _ refl refl (lt-ltb most_depth depth l))
 
     module _ (few : depth ≤ most_depth) where
       other-form : (form_of b ≡ 1 → ⊥) → refused 35 ≡ fault
       unfolding search_fault
-      other-form n = then-pass refl z (if_no _ refl (le-ltb most_depth depth few) (if_yes _ refl refl (ap not (ne_eqb (form_of b) 1 n))))
+      other-form n = then_pass refl z (if_no _ refl (le-ltb most_depth depth few) (if_yes _ refl refl (ap not (ne_eqb (form_of b) 1 n))))
 
       module _ (one : form_of b ≡ 1) where
         no_room : lent < depth * step_bytes → refused 30 ≡ fault
         unfolding search_fault
-        no_room l = then-pass refl z (if_no _ refl (le-ltb most_depth depth few) (if_no _ refl (ap not (eq-eqb (form_of b) 1 one)) (if_yes _ refl refl (lt-ltb lent (depth * step_bytes) l))))
+        no_room l = then_pass refl z (if_no _ refl (le-ltb most_depth depth few) (if_no _ refl (ap not (eq-eqb (form_of b) 1 one)) (if_yes _ refl refl (lt-ltb lent (depth * step_bytes) l))))
 
         module _ (room : depth * step_bytes ≤ lent) where
           at-step : ((ran_of b standing).refusal ≡ 0 → ⊥) → verdict (ran_of b standing).refusal (ran_of b standing).accepted ≡ fault
           unfolding search_fault
           at-step n =
-              then-pass refl z (if_no _ refl (le-ltb most_depth depth few) (if_no _ refl (ap not (eq-eqb (form_of b) 1 one)) (if_no _ refl (le-ltb lent (depth * step_bytes) room)
+              then_pass refl z (if_no _ refl (le-ltb most_depth depth few) (if_no _ refl (ap not (eq-eqb (form_of b) 1 one)) (if_no _ refl (le-ltb lent (depth * step_bytes) room)
               (if_yes _ refl refl (ap not (ne_eqb (ran_of b standing).refusal 0 n))))))
 
           all_right : (ran_of b standing).refusal ≡ 0 → fine ≡ fault
           unfolding search_fault
           all_right e =
-              then-pass refl z (if_no _ refl (le-ltb most_depth depth few) (if_no _ refl (ap not (eq-eqb (form_of b) 1 one)) (if_no _ refl (le-ltb lent (depth * step_bytes) room)
+              then_pass refl z (if_no _ refl (le-ltb most_depth depth few) (if_no _ refl (ap not (eq-eqb (form_of b) 1 one)) (if_no _ refl (le-ltb lent (depth * step_bytes) room)
               (if_no _ refl (ap not (eq-eqb (ran_of b standing).refusal 0 e)) refl))))
 
   faulted : Faulted b standing depth lent fault
@@ -263,7 +263,7 @@ module _ (b standing : List ℕ) (depth budget : ℕ) (out : List ℕ) where
 
     -- what the forms have in common
     in_all : (j k : ℕ) → j ≤ 2 → k ≤ 2 → Unreached (translation_of b standing k) standing depth → Unreached (translation_of b standing j) standing depth
-    in_all j k hj hk f ss l R = let T = in-each-form b standing A.runs j k hj hk ss R in f T.steps (omega (arith, T.long)) T.reaches
+    in_all j k hj hk f ss l R = let T = in_each_form b standing A.runs j k hj hk ss R in f T.steps (omega (arith, T.long)) T.reaches
 
     itself : translation_of b standing 1 ≡ b
     itself = ap (translation_of b standing) (sym A.counting) ∙ own b standing A.runs
@@ -411,4 +411,4 @@ module _ (b standing : List ℕ) (depth budget : ℕ) (out : List ℕ) where
       (subst (Answers b standing depth budget out (given x)) (given-bytes z) (answers_given (refusals.asked_only e)))
 
 pub q9 : Q9
-q9 = record { refusals = refusals; answers = answers; forms = in-each-form }
+q9 = record { refusals = refusals; answers = answers; forms = in_each_form }

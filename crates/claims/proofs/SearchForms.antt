@@ -101,7 +101,7 @@ module _ (b standing : List ℕ) (S : Runs b standing) where
     unfolding translation_with
     from_level R = subst⁻¹ (λ (x : ℕ). Reaches x E (ends k) ss) (level-at b standing S k l) (subst⁻¹ (λ (e : Design). Reaches k e (ends k) ss) (same-design b standing S k) R)
 
-  pub in-each-form : (j k : ℕ) → j ≤ 2 → k ≤ 2 → (ss : List Step) → ReachesFrom (translation_of b standing j) standing ss → ReachedIn (translation_of b standing k) standing (length ss)
-  in-each-form j k hj hk ss R =
+  pub in_each_form : (j k : ℕ) → j ≤ 2 → k ≤ 2 → (ss : List Step) → ReachesFrom (translation_of b standing j) standing ss → ReachedIn (translation_of b standing k) standing (length ss)
+  in_each_form j k hj hk ss R =
       let A = from_sets (length ss) k hk (to_sets (length ss) j hj (record { steps = ss; long = refl; reaches = to_level j hj ss R })) in
       record { steps = A.steps; long = A.long; reaches = from_level k hk A.steps A.reaches }

@@ -25,12 +25,12 @@ use Rattle.claims.specs.FirstStep.{EarlierMessage, no_message, lower_type, lower
 use Rattle.claims.specs.Search.{Before, shorter, earlier, later, NoWaits}
 
 -- ---- members
-in-cons : {P : Type 0} (t x : Step) (xs : List Step) → In t (x ∷ xs) → (t ≡ x → P) → (In t xs → P) → P
-in-cons t x xs here f g = f refl
-in-cons t x xs (there i) f g = g i
+in_cons : {P : Type 0} (t x : Step) (xs : List Step) → In t (x ∷ xs) → (t ≡ x → P) → (In t xs → P) → P
+in_cons t x xs here f g = f refl
+in_cons t x xs (there i) f g = g i
 
 in_one : (t x : Step) → In t (x ∷ []) → t ≡ x
-in_one t x i = in-cons t x [] i (λ e. e) (λ j. absurd (nobody j))
+in_one t x i = in_cons t x [] i (λ e. e) (λ j. absurd (nobody j))
 
 in_either : {P : Type 0} (t : Step) (xs ys : List Step) → In t (xs ++ ys) → (In t xs → P) → (In t ys → P) → P
 in_either t [] ys i f g = g i
@@ -43,12 +43,12 @@ record InOne (t : Step) (i : ℕ) (f : ℕ → List Step) : Type 0 where
   from : i ≤ at
   member : In t (f at)
 
-in-each : (t : Step) (g i : ℕ) (f : ℕ → List Step) → In t (each g i f) → InOne t i f
+in_each : (t : Step) (g i : ℕ) (f : ℕ → List Step) → In t (each g i f) → InOne t i f
 unfolding each
-in-each t zero i f h = absurd (nobody h)
-in-each t (suc g) i f h =
+in_each t zero i f h = absurd (nobody h)
+in_each t (suc g) i f h =
     in_either t (f i) (each g (i + 1) f) h (λ a. record { at = i; from = omega arith; member = a })
-    (λ b. let m = in-each t g (i + 1) f b in record { at = m.at; from = omega (arith, m.from); member = m.member })
+    (λ b. let m = in_each t g (i + 1) f b in record { at = m.at; from = omega (arith, m.from); member = m.member })
 
 -- of the tries of a rule with a message, of a rule, and of a board
 record Heard (p r m : ℕ) (t : Step) : Type 0 where
@@ -60,43 +60,43 @@ record Heard (p r m : ℕ) (t : Step) : Type 0 where
 heard_by : (p r m q : ℕ) → eqb q 255 ≡ false → Heard p r m (record { board = p; rule = r; type = m; source = q })
 heard_by p r m q e = record { board = refl; rule = refl; type = refl; heard = rw e (and-false (eqb m 255)) }
 
-in-type : (p r m : ℕ) (t : Step) → In t (of_type p r m) → Heard p r m t
-in-type p r m t i =
-    in-cons t _ _ i (λ e. subst (Heard p r m) (sym e) (heard_by p r m 0 refl)) (λ j. subst (Heard p r m) (sym (in_one t _ j)) (heard_by p r m 1 refl))
+in_type : (p r m : ℕ) (t : Step) → In t (of_type p r m) → Heard p r m t
+in_type p r m t i =
+    in_cons t _ _ i (λ e. subst (Heard p r m) (sym e) (heard_by p r m 0 refl)) (λ j. subst (Heard p r m) (sym (in_one t _ j)) (heard_by p r m 1 refl))
 
 module _ (d : Design) where
   -- without a message, and then the rule leads to another state; or with one
-  in-silent : (p r : ℕ) (t : Step) → In t (silently d p r) → (t ≡ alone p r) × (eqb (d.from r) (d.to r) ≡ false)
+  in_silent : (p r : ℕ) (t : Step) → In t (silently d p r) → (t ≡ alone p r) × (eqb (d.from r) (d.to r) ≡ false)
   unfolding ◌if◌else◌
-  in-silent p r t = go (eqb (d.from r) (d.to r)) refl
+  in_silent p r t = go (eqb (d.from r) (d.to r)) refl
     where
       go : (b : Bool) → eqb (d.from r) (d.to r) ≡ b → In t ([] if b else (alone p r ∷ [])) → (t ≡ alone p r) × (eqb (d.from r) (d.to r) ≡ false)
       go true e i = absurd (nobody i)
       go false e i = (in_one t (alone p r) i, e)
 
-  in-rule : {P : Type 0} (p r : ℕ) (t : Step) → In t (of_rule d p r) → (t ≡ alone p r → eqb (d.from r) (d.to r) ≡ false → P) → ((m : ℕ) → Heard p r m t → P) → P
+  in_rule : {P : Type 0} (p r : ℕ) (t : Step) → In t (of_rule d p r) → (t ≡ alone p r → eqb (d.from r) (d.to r) ≡ false → P) → ((m : ℕ) → Heard p r m t → P) → P
   unfolding of_rule
-  in-rule p r t h f g =
-      in_either t (silently d p r) (each d.types 0 (of_type p r)) h (λ a. let s = in-silent p r t a in f s.0 s.1)
-      (λ b. let m = in-each t d.types 0 (of_type p r) b in g m.at (in-type p r m.at t m.member))
+  in_rule p r t h f g =
+      in_either t (silently d p r) (each d.types 0 (of_type p r)) h (λ a. let s = in_silent p r t a in f s.0 s.1)
+      (λ b. let m = in_each t d.types 0 (of_type p r) b in g m.at (in_type p r m.at t m.member))
 
   of_rule_lem : (p r : ℕ) (t : Step) → In t (of_rule d p r) → (t.board ≡ p) × (t.rule ≡ r)
-  of_rule_lem p r t i = in-rule p r t i (λ e _. (ap (λ (s : Step). s.board) e, ap (λ (s : Step). s.rule) e)) (λ m H. (H.board, H.rule))
+  of_rule_lem p r t i = in_rule p r t i (λ e _. (ap (λ (s : Step). s.board) e, ap (λ (s : Step). s.rule) e)) (λ m H. (H.board, H.rule))
 
   of_board_lem : (p : ℕ) (t : Step) → In t (of_board d p) → t.board ≡ p
   unfolding of_board
-  of_board_lem p t i = let m = in-each t d.rules 0 (of_rule d p) i in (of_rule_lem p m.at t m.member).0
+  of_board_lem p t i = let m = in_each t d.rules 0 (of_rule d p) i in (of_rule_lem p m.at t m.member).0
 
   -- ---- no try is a wait
   rule_no_wait : (p r : ℕ) (t : Step) → In t (of_rule d p r) → is_wait d t ≡ false
   unfolding kind_of ◌if◌else◌
-  rule_no_wait p r t i = in-rule p r t i (λ e f. ap (is_wait d) e ∙ f) (λ m H. message-waits d t H.heard)
+  rule_no_wait p r t i = in_rule p r t i (λ e f. ap (is_wait d) e ∙ f) (λ m H. message-waits d t H.heard)
 
   no_wait : (t : Step) → In t (all_tries d) → is_wait d t ≡ false
   unfolding all_tries of_board
   no_wait t i =
-      let p = in-each t d.boards 0 (of_board d) i in
-      let r = in-each t d.rules 0 (of_rule d p.at) p.member in
+      let p = in_each t d.boards 0 (of_board d) i in
+      let r = in_each t d.rules 0 (of_rule d p.at) p.member in
       rule_no_wait p.at r.at t r.member
 
 -- ---- nothing in a list comes before what stands in front of it
@@ -114,7 +114,7 @@ unfolding each
 each-ordered zero i f o h = none
 each-ordered (suc g) i f o h =
     append-ordered (f i) (each g (i + 1) f) (o i) (each-ordered g (i + 1) f o h)
-    (λ s t a b. let m = in-each t g (i + 1) f b in h i m.at s t (omega (arith, m.from)) a m.member)
+    (λ s t a b. let m = in_each t g (i + 1) f b in h i m.at s t (omega (arith, m.from)) a m.member)
 
 behind : (before : List Step) (s : Step) (rest : List Step) → Ordered (before ++ (s ∷ rest)) → (t : Step) → In t rest → Earlier t s → ⊥
 behind [] s rest (more h O) = h
@@ -179,14 +179,14 @@ module _ (d : Design) where
   unfolding of_rule
   rule-ordered p r =
       append-ordered (silently d p r) (each d.types 0 (of_type p r)) (silent-ordered p r) (each-ordered d.types 0 (of_type p r) (type-ordered p r) types)
-      (λ s t i j. let e = (in-silent d p r s i).0 in let m = in-each t d.types 0 (of_type p r) j in
-      let H = in-type p r m.at t m.member in
+      (λ s t i j. let e = (in_silent d p r s i).0 in let m = in_each t d.types 0 (of_type p r) j in
+      let H = in_type p r m.at t m.member in
       not-message s t (ap (λ (x : Step). x.board) e ∙ sym H.board) (ap (λ (x : Step). x.rule) e ∙ sym H.rule) (not-silent s t (ap silent e) H.heard))
     where
       types : (j k : ℕ) (s t : Step) → j < k → In s (of_type p r j) → In t (of_type p r k) → Earlier t s → ⊥
       types j k s t l a b =
-          let S = in-type p r j s a in
-          let T = in-type p r k t b in
+          let S = in_type p r j s a in
+          let T = in_type p r k t b in
           not-message s t (S.board ∙ sym T.board) (S.rule ∙ sym T.rule) (not-type s t T.heard (omega (arith, S.type, T.type)))
 
   board-ordered : (p : ℕ) → Ordered (of_board d p)
@@ -218,7 +218,7 @@ module _ (d : Design) where
   none_before (suc k) w (s ∷ ss) (t ∷ ts) (step before rest e f F) R short l n a T (earlier b) =
       let z = first-accepted d w t ts T in
       in_either t before (s ∷ rest) (subst (In t) e (tried d w t (by_rule_lem d w t a.0 z) (n t here))) (λ i. f t i ts (omega arith) T)
-      (λ i. in-cons t s rest i (λ q. not_itself s (subst (λ (x : Step). Earlier x s) q b)) (λ j. behind before s rest (subst Ordered e ordered) t j b))
+      (λ i. in_cons t s rest i (λ q. not_itself s (subst (λ (x : Step). Earlier x s) q b)) (λ j. behind before s rest (subst Ordered e ordered) t j b))
   none_before (suc k) w (s ∷ ss) (t ∷ ts) (step before rest e f F) R short l n a T (later b) =
       let z = first-accepted d w s ss R in
       none_before k (stepped 1 d w s) ss ts F (rest-reaches d w s ss z R) (λ i h Q. short (suc i) (omega arith) (reaches_first d w s (take i ss) z Q)) (omega arith) (λ x i. n x (there i)) a.1

@@ -81,7 +81,7 @@ AllQuiet b standing l = (i : ℕ) → i < many_in b standing l → NoneAccepts (
 pub record Proves (b standing l : List ℕ) : Type 0 where
   pub fit : Fit b standing l
   pub upward : AllUpward b standing l
-  pub in-range : AllInRange b standing l
+  pub in_range : AllInRange b standing l
   pub has_start : HasStart b standing l
   pub closed : Closed b standing l
   pub quiet : AllQuiet b standing l

@@ -6,7 +6,7 @@ use Prim.Native.Nat.{ℕ, ◌+◌, ◌*◌, ◌≤◌}
 use native.Mathlib.Nat.{mul-le-mul}
 use native.Mathlib.Omega.{arith}
 use Rattle.fault.specs.Tests.{◌below◌, ◌differs◌}
-use Rattle.fault.proofs.FaultLaws.{if-keeps}
+use Rattle.fault.proofs.FaultLaws.{if_keeps}
 use Rattle.fault.proofs.TestLaws.{same}
 use Rattle.table.specs.Table.{types_of}
 use Rattle.bundle.specs.Bundle.{n_of, correct_of, starts_of, table_in_use}
@@ -54,8 +54,8 @@ module _ (b standing : List ℕ) where
   of_run_lem : {k : ℕ} (lent n : ℕ) → (Read (table_in_use b standing) b → n ≤ k) → of_run b standing lent n ≤ k
   unfolding of_run
   of_run_lem {k} lent n f =
-      if-keeps (λ (x : ℕ). x ≤ k) 0 ((read_fault b standing).number differs 0) _ (λ _. omega arith)
-      (λ e. if-keeps (λ (x : ℕ). x ≤ k) 0 (lent below room_of (sizes_in b standing)) n (λ _. omega arith) (λ _. f (read_by b standing refl (same _ 0 e) refl)))
+      if_keeps (λ (x : ℕ). x ≤ k) 0 ((read_fault b standing).number differs 0) _ (λ _. omega arith)
+      (λ e. if_keeps (λ (x : ℕ). x ≤ k) 0 (lent below room_of (sizes_in b standing)) n (λ _. omega arith) (λ _. f (read_by b standing refl (same _ 0 e) refl)))
 
   module _ (lent : ℕ) where
     pub few_receipts : (counted_answer b standing lent).receipts ≤ correct_of b * types_of (table_in_use b standing) * n_of b

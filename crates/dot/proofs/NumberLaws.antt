@@ -156,7 +156,7 @@ grew g (some n v) c = grew_some g n v c
 pub record Spelt (g : Bool) (b : ℕ) : Type 0 where
   pub below_0 : Bool
   pub size : ℕ
-  pub in-range : allowed g below_0 size ≡ true
+  pub in_range : allowed g below_0 size ≡ true
   pub the_text : spelling g b ≡ spell (some below_0 size)
   pub the_byte : byte_of below_0 size ≡ b
 
@@ -164,19 +164,19 @@ pub record Spelt (g : Bool) (b : ℕ) : Type 0 where
 pub byte_spelt : (g : Bool) (b : ℕ) → b < 256 → Spelt g b
 unfolding spell signed ◌if◌else◌ limit
 byte_spelt false b l =
-    record { below_0 = false; size = b; in-range = positive_allowed false b (omega arith); the_text = refl; the_byte = refl }
+    record { below_0 = false; size = b; in_range = positive_allowed false b (omega arith); the_text = refl; the_byte = refl }
 byte_spelt true b l = go (ltb b 128) refl
   where
     go : (t : Bool) → ltb b 128 ≡ t → Spelt true b
     go true h =
         let o = ltb-true b 128 h in
-        record { below_0 = false; size = b; in-range = positive_allowed true b (omega arith); the_text = rw h; the_byte = refl }
+        record { below_0 = false; size = b; in_range = positive_allowed true b (omega arith); the_text = rw h; the_byte = refl }
     go false h =
         let o = ltb-false b 128 h in
         record {
           below_0 = true;
           size = 256 - b;
-          in-range = negative-allowed true (256 - b) (record { can = refl; least = omega arith; most = omega arith });
+          in_range = negative-allowed true (256 - b) (record { can = refl; least = omega arith; most = omega arith });
           the_text = rw h;
           the_byte = omega arith;
         }

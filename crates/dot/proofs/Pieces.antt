@@ -71,7 +71,7 @@ num-goes s b {p} {k} {r} {q} l g t x =
     let e = byte_spelt (can_minus s) b l in
     let h = cut (spelling (can_minus s) b) p t x in
     let f : Goes p k (put s (byte_of e.below_0 e.size) r) q = rw e.the_byte g in
-    rw h.whole (number e.below_0 e.size (spelling (can_minus s) b) e.in-range e.the_text (f h.rest h.spaced))
+    rw h.whole (number e.below_0 e.size (spelling (can_minus s) b) e.in_range e.the_text (f h.rest h.spaced))
 
 -- a number of a label, which may be below 0 or not
 pub cell-goes : (n : Bool) (b : ℕ) {p : List Piece} {k : List Item} {r q : Gathered} → b < 256 → Goes p k (put cell b r) q →

@@ -8,7 +8,7 @@ use Rattle.fault.specs.declared.Verdict.{Verdict}
 use Rattle.fault.specs.declared.Answer.{Answer}
 use Rattle.fault.specs.Tests.{◌below◌, ◌differs◌}
 use Rattle.fault.specs.Fault.{refused, ◌if◌else◌}
-use Rattle.fault.proofs.FaultLaws.{Clean, Within, if-keeps, if-passed, check_within}
+use Rattle.fault.proofs.FaultLaws.{Clean, Within, if_keeps, if_passed, check_within}
 use Rattle.fault.proofs.TestLaws.{same}
 use Rattle.layout.specs.Layout.{types_in}
 use Rattle.table.specs.Table.{most_table}
@@ -43,7 +43,7 @@ module _ (t : List ℕ) where
   unfolding drawn_fault drawn_table
   drawn-short (fault p) z = omega arith
   drawn-short (drawn r) z =
-      let p = if-passed Clean (refused 2) (counts_outside r.states r.rules (types_in r.types) r.factor) (table_fault (table_of r)) (λ y. omega arith) z in
+      let p = if_passed Clean (refused 2) (counts_outside r.states r.rules (types_in r.types) r.factor) (table_fault (table_of r)) (λ y. omega arith) z in
       table-short (table_of r) (sized-table (table_of r) refl p.1)
 
   pub undraw-within : (lent : ℕ) → GivenWithin 61 (64 + length t) most_table (undraw_answer t lent)

@@ -10,7 +10,7 @@ use borrow.Author.Tests.{eq-eqb, ne_eqb}
 use Rattle.senders.specs.Tally.{some}
 use Rattle.fault.specs.declared.Verdict.{Verdict}
 use Rattle.fault.specs.Fault.{fine, refused, ◌if◌else◌, ◌▹◌, first_fault}
-use Rattle.fault.proofs.FaultLaws.{Clean, Within, if-passed, if-most, check_within, then-clean, then-within, first-within as firsts-within}
+use Rattle.fault.proofs.FaultLaws.{Clean, Within, if_passed, if_most, check_within, then_clean, then_within, first-within as firsts-within}
 use Rattle.layout.specs.Layout.{second, second_of, types_in}
 use Rattle.table.specs.Table.{states_of, rules_of, types_byte, types_of, most_table}
 use Rattle.table.specs.Refusals.{table_fault}
@@ -27,7 +27,7 @@ moved-short byte s Z e =
     omega (arith, moved_length byte s Z e, records_short (states_of s) (rules_of s) byte Z.few_states Z.few_rules (rw e Z.few_types))
 
 already : (t : Bool) → Clean (refused 33 if t else fine) → t ≡ false
-already t h = (if-passed Clean (refused 33) t fine (λ z. omega arith) h).0
+already t h = (if_passed Clean (refused 33) t fine (λ z. omega arith) h).0
 
 module _ (s : List ℕ) where
   -- after the table's own, where that refuses nothing
@@ -46,18 +46,18 @@ module _ (s : List ℕ) where
   unfolding to_second_answer to_second_fault
   second-within lent =
       given-within 30 33 64 most_table _ (moved_to (types_byte s + second) s) lent (omega arith) (own-within _ (λ _. already-within (second_of (types_byte s))))
-      (λ z. let c = then-clean (table_fault s) _ z in
+      (λ z. let c = then_clean (table_fault s) _ z in
       moved-short (types_byte s + second) s (well_formed s c.0).sized (up-types s refl refl (already (second_of (types_byte s)) c.1)))
 
   divides_most : (r : ℕ) → rule_divides s r ≤ 33
   unfolding rule_divides
-  divides_most r = if-most _ (omega arith) (omega arith)
+  divides_most r = if_most _ (omega arith) (omega arith)
 
   pub first-within : (lent : ℕ) → GivenWithin 33 64 most_table (to_first_answer s lent)
   unfolding to_first_answer to_first_fault
   first-within lent =
       given-within 30 33 64 most_table _ (moved_to (types_byte s - second) s) lent (omega arith)
-      (own-within _ (λ c. then-within (firsts-within 33 64 (rule_divides s) divides_most (rules_of s) (well_formed s c).sized.few_rules) (already-within (not (second_of (types_byte s))))))
-      (λ z. let c = then-clean (table_fault s) _ z in
-      let d = then-clean (first_fault (rule_divides s) (rules_of s)) _ c.1 in
+      (own-within _ (λ c. then_within (firsts-within 33 64 (rule_divides s) divides_most (rules_of s) (well_formed s c).sized.few_rules) (already-within (not (second_of (types_byte s))))))
+      (λ z. let c = then_clean (table_fault s) _ z in
+      let d = then_clean (first_fault (rule_divides s) (rules_of s)) _ c.1 in
       moved-short (types_byte s - second) s (well_formed s c.0).sized (down-types s (well_formed s c.0).sized refl refl (already (not (second_of (types_byte s))) d.1)))

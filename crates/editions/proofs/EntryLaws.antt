@@ -11,7 +11,7 @@ use Rattle.fault.specs.declared.Verdict.{Verdict}
 use Rattle.fault.specs.declared.Answer.{Answer}
 use Rattle.fault.specs.Tests.{◌differs◌}
 use Rattle.fault.specs.Fault.{fine, refused, nothing_done, first_fault}
-use Rattle.fault.proofs.FaultLaws.{if_yes, if_no, then-stop, then-pass}
+use Rattle.fault.proofs.FaultLaws.{if_yes, if_no, then_stop, then_pass}
 use Rattle.threshold.specs.declared.Weights.{Weights}
 use Rattle.layout.specs.Layout.{second, second_of, types_in, most_types, weights_of}
 use Rattle.table.specs.Table.{rules_of, types_byte, types_of, rule_of}
@@ -78,31 +78,31 @@ module _ {v : Verdict} (s out : List ℕ) (e : v ≡ table_fault s) where
 
   pub second-refused : {a : Answer} → (v.number ≡ 0 → ⊥) → a ≡ nothing_done v → ToSecond a out
   unfolding to_second_fault
-  second-refused n q = gave_refused 30 _ out (then-stop _ e n) n q
+  second-refused n q = gave_refused 30 _ out (then_stop _ e n) n q
 
   pub first-refused : {a : Answer} → (v.number ≡ 0 → ⊥) → a ≡ nothing_done v → ToFirst a out
   unfolding to_first_fault
-  first-refused n q = gave_refused 30 _ out (then-stop _ e n) n q
+  first-refused n q = gave_refused 30 _ out (then_stop _ e n) n q
 
   module _ {b : Bool} {x : ℕ} (z : v.number ≡ 0) (f : x ≡ types_byte s) (g : b ≡ second_of x) where
     pub second-already : {a : Answer} → b ≡ true → a ≡ nothing_done (refused 33) → ToSecond a out
     unfolding to_second_fault
-    second-already h q = gave_refused 30 _ out (then-pass e z (if_yes _ refl (rw f at g) h)) (λ z. omega arith) q
+    second-already h q = gave_refused 30 _ out (then_pass e z (if_yes _ refl (rw f at g) h)) (λ z. omega arith) q
 
     pub second-given : {a : Answer} {u : List ℕ} → b ≡ false → a ≡ given 30 fine (moved_to (x + second) s) (length out) → u ≡ left fine (moved_to (x + second) s) out → ToSecond a u
     unfolding to_second_fault
-    second-given h q r = gave_moved s (then-pass e z (if_no _ (rw f at g) h refl)) (ap (λ (y : ℕ). y + second) f) q r
+    second-given h q r = gave_moved s (then_pass e z (if_no _ (rw f at g) h refl)) (ap (λ (y : ℕ). y + second) f) q r
 
   module _ {w : Verdict} (z : v.number ≡ 0) (d : w ≡ first_fault (rule_divides s) (rules_of s)) where
     pub first-divides : {a : Answer} → (w.number ≡ 0 → ⊥) → a ≡ nothing_done w → ToFirst a out
     unfolding to_first_fault
-    first-divides n q = gave_refused 30 _ out (then-pass e z (then-stop _ d n)) n q
+    first-divides n q = gave_refused 30 _ out (then_pass e z (then_stop _ d n)) n q
 
     module _ {b : Bool} {x : ℕ} (y : w.number ≡ 0) (f : x ≡ types_byte s) (g : b ≡ second_of x) where
       pub first-already : {a : Answer} → not b ≡ true → a ≡ nothing_done (refused 33) → ToFirst a out
       unfolding to_first_fault
-      first-already h q = gave_refused 30 _ out (then-pass e z (then-pass d y (if_yes _ refl (ap not (rw f at g)) h))) (λ z. omega arith) q
+      first-already h q = gave_refused 30 _ out (then_pass e z (then_pass d y (if_yes _ refl (ap not (rw f at g)) h))) (λ z. omega arith) q
 
       pub first-given : {a : Answer} {u : List ℕ} → not b ≡ false → a ≡ given 30 fine (moved_to (x - second) s) (length out) → u ≡ left fine (moved_to (x - second) s) out → ToFirst a u
       unfolding to_first_fault
-      first-given h q r = gave_moved s (then-pass e z (then-pass d y (if_no _ (ap not (rw f at g)) h refl))) (ap (λ (y : ℕ). y - second) f) q r
+      first-given h q r = gave_moved s (then_pass e z (then_pass d y (if_no _ (ap not (rw f at g)) h refl))) (ap (λ (y : ℕ). y - second) f) q r

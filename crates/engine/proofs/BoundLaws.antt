@@ -6,7 +6,7 @@ use native.Mathlib.Omega.{arith}
 use lib.Dec.{eqb}
 use lib.ListN.{length}
 use Rattle.fault.specs.Tests.{◌below◌, ◌differs◌}
-use Rattle.fault.proofs.FaultLaws.{if-keeps, if-most}
+use Rattle.fault.proofs.FaultLaws.{if_keeps, if_most}
 use Rattle.fault.proofs.TestLaws.{same}
 use Rattle.bundle.specs.Bundle.{table_in_use, steps_of}
 use Rattle.bundle.specs.Refusals.{read_fault}
@@ -40,9 +40,9 @@ ran-within t b R =
 pub run-answer-within : (b standing : List ℕ) (lent : ℕ) → AnswerWithin 4096 (run_answer b standing lent)
 unfolding run_answer ran_answer
 run-answer-within b standing lent =
-    if-keeps (AnswerWithin 4096) _ ((read_fault b standing).number differs 0) _
+    if_keeps (AnswerWithin 4096) _ ((read_fault b standing).number differs 0) _
     (λ _. let W = read-within (table_in_use b standing) b in record { refusal = omega (arith, W.number); place = omega (arith, W.place); count = omega arith })
-    (λ e. if-keeps (AnswerWithin 4096) _ (lent below room_of (sizes_in b standing)) _
+    (λ e. if_keeps (AnswerWithin 4096) _ (lent below room_of (sizes_in b standing)) _
     (λ _. record { refusal = omega arith; place = omega arith; count = omega arith })
     (λ _. let W = ran-within (table_in_use b standing) b (read_by b standing refl (same _ 0 e) refl) in
-    record { refusal = omega (arith, W.refusal); place = if-most (eqb (ran_of b standing).refusal 0) (omega arith) W.accepted; count = W.accepted }))
+    record { refusal = omega (arith, W.refusal); place = if_most (eqb (ran_of b standing).refusal 0) (omega arith) W.accepted; count = W.accepted }))

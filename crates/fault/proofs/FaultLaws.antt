@@ -20,34 +20,34 @@ unfolding ◌if◌else◌
 if_no x q h e = rw (← q, h, e)
 
 -- where the whole has a property that x has not, the test said no
-pub if-passed : {A : Type 0} (P : A → Type 0) (x : A) (t : Bool) (rest : A) → (P x → ⊥) → P (x if t else rest) → (t ≡ false) × P rest
+pub if_passed : {A : Type 0} (P : A → Type 0) (x : A) (t : Bool) (rest : A) → (P x → ⊥) → P (x if t else rest) → (t ≡ false) × P rest
 unfolding ◌if◌else◌
-if-passed P x true rest n h = absurd (n h)
-if-passed P x false rest n h = (refl, h)
+if_passed P x true rest n h = absurd (n h)
+if_passed P x false rest n h = (refl, h)
 
 -- ---- one verdict after the other
-then-first : (v w : Verdict) → (v.number ≡ 0 → ⊥) → (v ▹ w) ≡ v
+then_first : (v w : Verdict) → (v.number ≡ 0 → ⊥) → (v ▹ w) ≡ v
 unfolding ◌▹◌
-then-first v w h = rw (ne_eqb v.number 0 h)
+then_first v w h = rw (ne_eqb v.number 0 h)
 
 then_next : (v w : Verdict) → v.number ≡ 0 → (v ▹ w) ≡ w
 unfolding ◌▹◌
 then_next v w h = rw (eq-eqb v.number 0 h)
 
-pub then-stop : {v u : Verdict} (w : Verdict) → v ≡ u → (v.number ≡ 0 → ⊥) → v ≡ (u ▹ w)
-then-stop {v} {u} w e b = rw (← e, then-first v w b)
+pub then_stop : {v u : Verdict} (w : Verdict) → v ≡ u → (v.number ≡ 0 → ⊥) → v ≡ (u ▹ w)
+then_stop {v} {u} w e b = rw (← e, then_first v w b)
 
-pub then-pass : {x u v w : Verdict} → x ≡ u → x.number ≡ 0 → v ≡ w → v ≡ (u ▹ w)
-then-pass {x} {u} {v} {w} e z h = rw (← e, then_next x w z, h)
+pub then_pass : {x u v w : Verdict} → x ≡ u → x.number ≡ 0 → v ≡ w → v ≡ (u ▹ w)
+then_pass {x} {u} {v} {w} e z h = rw (← e, then_next x w z, h)
 
 abbrev pub Clean : Verdict → Type 0
 Clean v = v.number ≡ 0
 
-pub then-clean : (u w : Verdict) → Clean (u ▹ w) → Clean u × Clean w
-then-clean u w h =
+pub then_clean : (u w : Verdict) → Clean (u ▹ w) → Clean u × Clean w
+then_clean u w h =
     elim (ℕ_discrete u.number 0) [
       | yes e ↦ (e, ap (λ (v : Verdict). v.number) (sym (then_next u w e)) ∙ h)
-      | no n ↦ absurd (n (ap (λ (v : Verdict). v.number) (sym (then-first u w n)) ∙ h))
+      | no n ↦ absurd (n (ap (λ (v : Verdict). v.number) (sym (then_first u w n)) ∙ h))
     ]
 
 -- ---- the lowest place
@@ -62,7 +62,7 @@ module _ (f : ℕ → ℕ) where
 
   after : (n : ℕ) → ((first_fault f n).number ≡ 0 → ⊥) → first_fault f (suc n) ≡ first_fault f n
   unfolding first_fault
-  after n b = then-first (first_fault f n) _ b
+  after n b = then_first (first_fault f n) _ b
 
   at : (i n : ℕ) → i < n → first_fault f i ≡ fine → (f i ≡ 0 → ⊥) → first_fault f n ≡ verdict (f i) i
   unfolding ◌if◌else◌
@@ -91,7 +91,7 @@ module _ (f : ℕ → ℕ) where
   unfolding first_fault ◌if◌else◌
   first-clean zero z i h = absurd (omega arith)
   first-clean (suc n) z i h =
-      let p = then-clean (first_fault f n) (fine if eqb (f n) 0 else verdict (f n) n) z in
+      let p = then_clean (first_fault f n) (fine if eqb (f n) 0 else verdict (f n) n) z in
       elim (dec_lt i n) [ yes l ↦ first-clean n p.0 i l | no m ↦ here (eqb (f n) 0) refl p.1 (omega arith) ]
     where
       here : (b : Bool) → eqb (f n) 0 ≡ b → Clean (fine if b else verdict (f n) n) → n ≡ i → f i ≡ 0
@@ -99,13 +99,13 @@ module _ (f : ℕ → ℕ) where
       here false e q r = rw (← r) q
 
 -- ---- what both ways out of a check have, the check has
-pub if-keeps : {A : Type 0} (P : A → Type 0) (x : A) (t : Bool) (rest : A) → (t ≡ true → P x) → (t ≡ false → P rest) → P (x if t else rest)
+pub if_keeps : {A : Type 0} (P : A → Type 0) (x : A) (t : Bool) (rest : A) → (t ≡ true → P x) → (t ≡ false → P rest) → P (x if t else rest)
 unfolding ◌if◌else◌
-if-keeps P x true rest a b = a refl
-if-keeps P x false rest a b = b refl
+if_keeps P x true rest a b = a refl
+if_keeps P x false rest a b = b refl
 
-pub if-most : {k x rest : ℕ} (t : Bool) → x ≤ k → rest ≤ k → (x if t else rest) ≤ k
-if-most {k} {x} {rest} t a b = if-keeps (λ (y : ℕ). y ≤ k) x t rest (λ _. a) (λ _. b)
+pub if_most : {k x rest : ℕ} (t : Bool) → x ≤ k → rest ≤ k → (x if t else rest) ≤ k
+if_most {k} {x} {rest} t a b = if_keeps (λ (y : ℕ). y ≤ k) x t rest (λ _. a) (λ _. b)
 
 -- a verdict's number is at most k, its place at most p
 pub record Within (k p : ℕ) (v : Verdict) : Type 0 where
@@ -116,11 +116,11 @@ refused-within : (k p n : ℕ) → n ≤ k → Within k p (refused n)
 refused-within k p n h = record { number = h; place = omega arith }
 
 pub check_within : {k p n : ℕ} {rest : Verdict} (t : Bool) → n ≤ k → (t ≡ false → Within k p rest) → Within k p (refused n if t else rest)
-check_within {k} {p} {n} {rest} t h f = if-keeps (Within k p) (refused n) t rest (λ _. refused-within k p n h) f
+check_within {k} {p} {n} {rest} t h f = if_keeps (Within k p) (refused n) t rest (λ _. refused-within k p n h) f
 
-pub then-within : {k p : ℕ} {v w : Verdict} → Within k p v → Within k p w → Within k p (v ▹ w)
+pub then_within : {k p : ℕ} {v w : Verdict} → Within k p v → Within k p w → Within k p (v ▹ w)
 unfolding ◌▹◌
-then-within {k} {p} {v} {w} a b = go (eqb v.number 0)
+then_within {k} {p} {v} {w} a b = go (eqb v.number 0)
   where
     go : (t : Bool) → Within k p (cond t w v)
     go true = b
@@ -129,4 +129,4 @@ then-within {k} {p} {v} {w} a b = go (eqb v.number 0)
 pub first-within : (k p : ℕ) (f : ℕ → ℕ) → ((i : ℕ) → f i ≤ k) → (n : ℕ) → n ≤ p → Within k p (first_fault f n)
 unfolding first_fault
 first-within k p f h zero l = refused-within k p 0 (omega arith)
-first-within k p f h (suc n) l = then-within (first-within k p f h n (omega arith)) (check_within _ (omega arith) (λ _. record { number = h n; place = omega arith }))
+first-within k p f h (suc n) l = then_within (first-within k p f h n (omega arith)) (check_within _ (omega arith) (λ _. record { number = h n; place = omega arith }))

@@ -11,7 +11,7 @@ use Rattle.fault.specs.declared.Verdict.{Verdict}
 use Rattle.fault.specs.declared.Answer.{Answer}
 use Rattle.fault.specs.Tests.{◌below◌, ◌differs◌}
 use Rattle.fault.specs.Fault.{refused, nothing_done, ◌if◌else◌}
-use Rattle.fault.proofs.FaultLaws.{if_yes, if_no, if-keeps, Within}
+use Rattle.fault.proofs.FaultLaws.{if_yes, if_no, if_keeps, Within}
 use Rattle.fault.proofs.TestLaws.{same}
 use Rattle.ink.specs.Ink.{stored, given, left, Gives}
 use Rattle.ink.proofs.InkLaws.{stored-whole}
@@ -84,8 +84,8 @@ pub record GivenWithin (q p n : ℕ) (a : Answer) : Type 0 where
 pub given-within : (k q p n : ℕ) (v : Verdict) (w : List ℕ) (lent : ℕ) → k ≤ q → Within q p v → (v.number ≡ 0 → length w ≤ n) → GivenWithin q p n (given k v w lent)
 unfolding given
 given-within k q p n v w lent h W l =
-    if-keeps (GivenWithin q p n) _ (v.number differs 0) _
+    if_keeps (GivenWithin q p n) _ (v.number differs 0) _
     (λ _. record { refusal = W.number; place = W.place; count = omega arith })
-    (λ e. if-keeps (GivenWithin q p n) _ (lent below length w) _
+    (λ e. if_keeps (GivenWithin q p n) _ (lent below length w) _
     (λ _. record { refusal = h; place = omega arith; count = omega arith })
     (λ _. record { refusal = omega arith; place = omega arith; count = l (same _ 0 e) }))

@@ -36,10 +36,10 @@ same_rest : {s s' : Step} {t t' : List ℕ} → said s t ≡ said s' t' → t �
 same_rest e = ap rest_of e
 
 -- the case of a test that comes to a step is the one where the test says yes
-if-said : {x : Said} {s : Step} {t : List ℕ} (b : Bool) → (x if b else nothing) ≡ said s t → (b ≡ true) × (x ≡ said s t)
+if_said : {x : Said} {s : Step} {t : List ℕ} (b : Bool) → (x if b else nothing) ≡ said s t → (b ≡ true) × (x ≡ said s t)
 unfolding ◌if◌else◌
-if-said true e = (refl, e)
-if-said false e = absurd (told-apart e)
+if_said true e = (refl, e)
+if_said false e = absurd (told-apart e)
 
 -- ---- words
 begins-made : (w t : List ℕ) → begins w (w ++ t) ≡ true
@@ -86,9 +86,9 @@ record Number (k : ℕ → List ℕ → Said) (u : List ℕ) (s : Step) (t' : Li
 
 counted_is : (k : ℕ → List ℕ → Said) (u : List ℕ) (s : Step) (t' : List ℕ) → counted k u ≡ said s t' → Number k u s t'
 unfolding counted is_digit
-counted_is k [] s t' e = absurd (false≢true (sym (ap is_digit peek-none) ∙ (if-said (is_digit (peeked [] 0)) e).0))
+counted_is k [] s t' e = absurd (false≢true (sym (ap is_digit peek-none) ∙ (if_said (is_digit (peeked [] 0)) e).0))
 counted_is k (c ∷ u) s t' e =
-    let p = if-said (is_digit (peeked (c ∷ u) 0)) e in
+    let p = if_said (is_digit (peeked (c ∷ u) 0)) e in
     let d = digit-range c (sym (ap is_digit (peek-first c u)) ∙ p.0) in
     let S = longest_spells most_said (c - 48) u (omega arith) in
     record {
@@ -106,7 +106,7 @@ numbered-made w k v t l h = rw (begins-made w (decimal v ++ t), drop-append_seam
 numbered_is : (w : List ℕ) (k : ℕ → List ℕ → Said) (t : List ℕ) (s : Step) (t' : List ℕ) → numbered w k t ≡ said s t' → Took w k t s t'
 unfolding numbered
 numbered_is w k t s t' e =
-    let p = if-said (begins w t) e in
+    let p = if_said (begins w t) e in
     let N = counted_is k (drop (length w) t) s t' p.1 in
     record { value = N.value; after = N.after; text = begins-is w t p.0 ∙ ap (λ (x : List ℕ). w ++ x) N.text; small = N.small; goes = N.goes }
 
@@ -186,7 +186,7 @@ heard-is p r u t' s a b e =
     let M = numbered_is (text " type ") _ u s t' e in
     let Q = numbered_is (text " from ") _ M.after s t' M.goes in
     let x : Step = record { board = p; rule = r; type = M.value; source = Q.value } in
-    let E = if-said (ends Q.after) Q.goes in
+    let E = if_said (ends Q.after) Q.goes in
     let i : x ≡ s = same_step E.1 in
     let f : Q.after ≡ 10 ∷ t' = ends_is Q.after E.0 ∙ ap (λ (y : List ℕ). 10 ∷ y) (same_rest E.1) in
     rw (← i)

@@ -11,7 +11,7 @@ use lib.ListN.{length, get_or, take, drop, drop_of_length-le}
 use lib.Seq.{drop-cons}
 use borrow.Author.Tests.{eq-eqb, ne_eqb, eqb-true, eqb-false}
 use Rattle.fault.specs.Fault.{◌if◌else◌}
-use Rattle.fault.proofs.FaultLaws.{if-keeps}
+use Rattle.fault.proofs.FaultLaws.{if_keeps}
 use Rattle.paper.specs.Paper.{Step}
 use Rattle.paper.specs.Machine.{Machine, RanBy, one_more, run_by, after_by, no_step, follow_all, Follows, FollowsAll}
 
@@ -33,7 +33,7 @@ module _ {A : Type 0} (M : Machine A) (a : A) (s : Step) (ss : List Step) where
   pub goes : (run_by M a (s ∷ ss)).refusal ≡ 0 → Goes
   unfolding run_by
   goes =
-      if-keeps (λ (r : RanBy A). r.refusal ≡ 0 → Goes) _ (eqb (M.fault a s) 0) _ (λ e h. record { first = eqb-true _ 0 e; rest = h })
+      if_keeps (λ (r : RanBy A). r.refusal ≡ 0 → Goes) _ (eqb (M.fault a s) 0) _ (λ e h. record { first = eqb-true _ 0 e; rest = h })
       (λ e h. absurd (eqb-false _ 0 e h))
 
 pub after-goes : {A : Type 0} (M : Machine A) (a : A) (s : Step) (ss : List Step) → M.fault a s ≡ 0 → (i : ℕ) → after_by M a (s ∷ ss) (suc i) ≡ after_by M (M.next a s) ss i
@@ -50,7 +50,7 @@ module _ {A : Type 0} (M : Machine A) (most : ℕ) (step : (a : A) (s : Step) �
   run-within a [] = record { accepted = omega arith; refusal = omega arith }
   run-within a (s ∷ ss) =
       let R = run-within (M.next a s) ss in
-      if-keeps (WithinBy most (length (s ∷ ss))) _ (eqb (M.fault a s) 0) _ (λ _. record { accepted = omega (arith, R.accepted); refusal = R.refusal })
+      if_keeps (WithinBy most (length (s ∷ ss))) _ (eqb (M.fault a s) 0) _ (λ _. record { accepted = omega (arith, R.accepted); refusal = R.refusal })
       (λ _. record { accepted = omega arith; refusal = step a s })
 
 -- ---- the loop: after i steps the run is the run of what is left, i steps on
@@ -94,7 +94,7 @@ module _ {A : Type 0} (M : Machine A) (P : ℕ → A → Type 0) (step : (n : �
   unfolding run_by
   run-keeps-counting n a [] p = more _ _ a (omega arith) p
   run-keeps-counting n a (x ∷ xs) p =
-      if-keeps (λ (r : RanBy A). P (n + length (x ∷ xs)) r.left) _ (eqb (M.fault a x) 0) _
+      if_keeps (λ (r : RanBy A). P (n + length (x ∷ xs)) r.left) _ (eqb (M.fault a x) 0) _
       (λ e. more _ _ _ (omega arith) (run-keeps-counting (suc n) (M.next a x) xs (step n a x p (eqb-true _ 0 e)))) (λ _. more _ _ a (omega arith) p)
 
 pub run-keeps : {A : Type 0} (M : Machine A) (P : A → Type 0) → ((a : A) (s : Step) → P a → M.fault a s ≡ 0 → P (M.next a s)) → (a : A) (ss : List Step) → P a → P (run_by M a ss).left

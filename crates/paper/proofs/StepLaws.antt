@@ -15,7 +15,7 @@ use Rattle.senders.specs.Set.{mem}
 use Rattle.senders.proofs.TallyLaws.{every-each, every_made}
 use Rattle.fault.specs.Tests.{◌at_least◌}
 use Rattle.fault.specs.Fault.{◌if◌else◌}
-use Rattle.fault.proofs.FaultLaws.{if-passed, if-keeps, if_no, if-most}
+use Rattle.fault.proofs.FaultLaws.{if_passed, if_keeps, if_no, if_most}
 use Rattle.fault.proofs.TestLaws.{or-none, same}
 use Rattle.paper.specs.Paper.{Design, Interp, Conf, Step, newly, silent, Kind, silence, message, kind_of, Coming, CanHear, added, Moves, Stops, Steps, by_rule, by_stop, Same, stop_rule, is_stop, stopped_count}
 use Rattle.paper.specs.Words.{size, state, sent, hear, stop}
@@ -37,7 +37,7 @@ kind-message s e = rw e
 -- what holds without a message and with one holds for its kind
 pub by_kind : (P : Kind → Type 0) (s : Step) → (silent s ≡ true → P silence) → (silent s ≡ false → P (message s.type s.source)) → P (kind_of s)
 unfolding kind_of
-by_kind P s = if-keeps P silence (silent s) (message s.type s.source)
+by_kind P s = if_keeps P silence (silent s) (message s.type s.source)
 
 -- a function of the kind, as a test of the bytes
 pub kind_if : {A : Type 0} (f : Kind → A) (s : Step) → f (kind_of s) ≡ (f silence if silent s else f (message s.type s.source))
@@ -126,7 +126,7 @@ module _ (k : ℕ) (d : Design) (w : List ℕ) (p : ℕ) where
           sents = λ j. ap (shown k C d.faulty) (sent-hear C T (wide k) w l p m e g hp H.type he j);
           others = λ x j hx hj o. coll-same k C d.faulty _ _ (λ i hi. other x j i hj hi (λ r. o r.0));
           mine = λ j hj.
-              if-keeps (λ (M : (column_of k d).Coll). rcvd_in k d v p j ≡ M) _ (eqb m j) _ (λ z. subst (λ (x : ℕ). rcvd_in k d v p x ≡ (column_of k d).add q (rcvd_in k d w p x)) (eqb-true m j z)
+              if_keeps (λ (M : (column_of k d).Coll). rcvd_in k d v p j ≡ M) _ (eqb m j) _ (λ z. subst (λ (x : ℕ). rcvd_in k d v p x ≡ (column_of k d).add q (rcvd_in k d w p x)) (eqb-true m j z)
               (coll-bump k C d.faulty q _ _ H.source (cell-hear-same C T (wide k) w l p m e g hp H.type he) (λ i hi o. other p m i H.type hi (λ r. o r.2))))
               (λ z. coll-same k C d.faulty _ _ (λ i hi. other p j i hj hi (λ r. eqb-false m j z (sym r.1))));
         }
@@ -160,7 +160,7 @@ module _ (k : ℕ) (d : Design) (w : List ℕ) (s : Step) where
       record { board = b; rule = r; leaves = f; named = λ e. record { type = (one e).type; source = (one e).source }; transit = λ e. (one e).transit }
 
   zero_if : (n : ℕ) (t : Bool) (rest : ℕ) → (n ≡ 0 → ⊥) → (n if t else rest) ≡ 0 → (t ≡ false) × (rest ≡ 0)
-  zero_if n t rest = if-passed (λ (x : ℕ). x ≡ 0) n t rest
+  zero_if n t rest = if_passed (λ (x : ℕ). x ≡ 0) n t rest
 
   pub accepted : take_fault k d w s ≡ 0 → Accepted k d w s
   unfolding take_fault not_met
@@ -190,7 +190,7 @@ module _ (k : ℕ) (d : Design) (w : List ℕ) (s : Step) where
 
   take_most : take_fault k d w s ≤ 25
   unfolding take_fault
-  take_most = if-most _ (omega arith) (if-most _ (omega arith) (if-most _ (omega arith) (if-most _ (omega arith) (if-most _ (omega arith) (if-most _ (omega arith) (omega arith))))))
+  take_most = if_most _ (omega arith) (if_most _ (omega arith) (if_most _ (omega arith) (if_most _ (omega arith) (if_most _ (omega arith) (if_most _ (omega arith) (omega arith))))))
 
   -- ---- the receipt
   pub heard_silent : silent s ≡ true → heard k d w s ≡ w
@@ -369,7 +369,7 @@ module _ (k : ℕ) (d : Design) (w : List ℕ) (s : Step) where
   pub step_most : step_fault k d w s ≤ 27
   unfolding step_fault stop_fault
   step_most =
-      if-most _ (omega arith) (if-most _ (omega arith) (if-most _ (if-most _ (omega arith) (if-most _ (omega arith) (omega arith))) (omega (arith, take_most k d w s))))
+      if_most _ (omega arith) (if_most _ (omega arith) (if_most _ (if_most _ (omega arith) (if_most _ (omega arith) (omega arith))) (omega (arith, take_most k d w s))))
 
   pub step-related : length w ≡ size d.boards d.types (wide k) → step_fault k d w s ≡ 0 → Steps d (column_of k d) s (view k d w) (view k d (stepped k d w s))
   step-related l h = go (accepts_by_lem h)

@@ -13,7 +13,7 @@ use lib.ListN.{length, get_or, set, replicate, length-set, length-replicate, len
 use lib.Seq.{get_or-set_same, get_or-set_other, get_or-append-add, ext_get_or}
 use Rattle.senders.specs.Set.{insert}
 use Rattle.fault.specs.Fault.{◌if◌else◌}
-use Rattle.fault.proofs.FaultLaws.{if-keeps}
+use Rattle.fault.proofs.FaultLaws.{if_keeps}
 use Rattle.paper.specs.Words.{size, cell_at, sent_at, stopped_at, state, cell, sent, stopped, hear, tell, stop, start}
 
 right_pos : (a b : ℕ) → 0 < a * b → 0 < b
@@ -103,7 +103,7 @@ module _ (C T k : ℕ) where
     pub length-tell : (n : ℕ) (v : List ℕ) → length (tell C T k new g n v) ≡ length v
     unfolding tell
     length-tell zero v = refl
-    length-tell (suc n) v = let u = tell C T k new g n v in if-keeps (λ (x : List ℕ). length x ≡ length v) (put u n) (new n) u (λ e. length-set u _ _ ∙ length-tell n v) (λ e. length-tell n v)
+    length-tell (suc n) v = let u = tell C T k new g n v in if_keeps (λ (x : List ℕ). length x ≡ length v) (put u n) (new n) u (λ e. length-set u _ _ ∙ length-tell n v) (λ e. length-tell n v)
 
     tell-before : (n : ℕ) (v : List ℕ) (i : ℕ) → i < sent_at C T k 0 → get_or (tell C T k new g n v) i 0 ≡ get_or v i 0
     unfolding tell sent_at
@@ -111,7 +111,7 @@ module _ (C T k : ℕ) where
     tell-before (suc n) v i h =
         let u = tell C T k new g n v in
         let ih = tell-before n v i h in
-        if-keeps (λ (x : List ℕ). get_or x i 0 ≡ get_or v i 0) (put u n) (new n) u (λ e. get_or-set_other u _ i _ 0 (omega arith) ∙ ih) (λ e. ih)
+        if_keeps (λ (x : List ℕ). get_or x i 0 ≡ get_or v i 0) (put u n) (new n) u (λ e. get_or-set_other u _ i _ 0 (omega arith) ∙ ih) (λ e. ih)
 
     pub state-tell : (n : ℕ) (v : List ℕ) (q : ℕ) → q < C → state (tell C T k new g n v) q ≡ state v q
     unfolding state
@@ -127,7 +127,7 @@ module _ (C T k : ℕ) where
     sent-tell_above (suc n) v j h =
         let u = tell C T k new g n v in
         let ih = sent-tell_above n v j (omega arith) in
-        if-keeps (λ (x : List ℕ). sent C T k x j ≡ sent C T k v j) (put u n) (new n) u (λ e. put_other u n j (omega arith) ∙ ih) (λ e. ih)
+        if_keeps (λ (x : List ℕ). sent C T k x j ≡ sent C T k v j) (put u n) (new n) u (λ e. put_other u n j (omega arith) ∙ ih) (λ e. ih)
 
     pub stopped-tell : (n : ℕ) (v : List ℕ) → n ≤ T → stopped C T k (tell C T k new g n v) ≡ stopped C T k v
     unfolding tell stopped stopped_at sent_at
@@ -135,7 +135,7 @@ module _ (C T k : ℕ) where
     stopped-tell (suc n) v h =
         let u = tell C T k new g n v in
         let ih = stopped-tell n v (omega arith) in
-        if-keeps (λ (x : List ℕ). get_or x (stopped_at C T k) 0 ≡ get_or v (stopped_at C T k) 0) (put u n) (new n) u (λ e. get_or-set_other u _ _ _ 0 (unfold stopped_at in omega arith) ∙ ih) (λ e. ih)
+        if_keeps (λ (x : List ℕ). get_or x (stopped_at C T k) 0 ≡ get_or v (stopped_at C T k) 0) (put u n) (new n) u (λ e. get_or-set_other u _ _ _ 0 (unfold stopped_at in omega arith) ∙ ih) (λ e. ih)
 
     -- each sent word: changed where its type is new
     module _ (v : List ℕ) (l : length v ≡ size C T k) where

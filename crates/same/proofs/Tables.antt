@@ -14,7 +14,7 @@ use Rattle.fault.specs.declared.Verdict.{Verdict}
 use Rattle.fault.specs.Bytes.{byte_at}
 use Rattle.fault.specs.Tests.{◌below◌, ◌over◌, ◌at_least◌, outside}
 use Rattle.fault.specs.Fault.{fine, verdict, refused, ◌if◌else◌, ◌▹◌, first_fault}
-use Rattle.fault.proofs.FaultLaws.{Clean, then-pass}
+use Rattle.fault.proofs.FaultLaws.{Clean, then_pass}
 use Rattle.threshold.specs.declared.Weights.{Weights}
 use Rattle.threshold.specs.Threshold.{threshold_of, met_by}
 use Rattle.layout.specs.Layout.{types_in, divisor_outside, most_divisor}
@@ -47,9 +47,9 @@ and_same {a} {b} {n} {n'} x e h = go (dec_lt x n)
     go (yes l) = rw (← e, lt-ltb x n l) (h l)
     go (no l) = rw (← e, le-ltb x n (omega arith))
 
-if-same : {a b : ℕ} (n x : ℕ) → (x < n → a ≡ b) → (a if x below n else 0) ≡ (b if x below n else 0)
+if_same : {a b : ℕ} (n x : ℕ) → (x < n → a ≡ b) → (a if x below n else 0) ≡ (b if x below n else 0)
 unfolding ◌if◌else◌
-if-same {a} {b} n x h = go (dec_lt x n)
+if_same {a} {b} n x h = go (dec_lt x n)
   where
     go : Dec (x < n) → (a if x below n else 0) ≡ (b if x below n else 0)
     go (yes l) = rw (lt-ltb x n l) (h l)
@@ -113,7 +113,7 @@ module _ (s s' : List ℕ) (E : SameTable s s') where
   fault-same b c c' =
       let starts = first-same (correct_of b) (start_fault s (starts_of b)) (start_fault s' (starts_of b)) (λ p h. start (byte_at (starts_of b) p)) in
       let schedule : schedule_fault s b ≡ schedule_fault s' b = λ i. refused 12 if not_admitted (E.factor i) b else refused 13 if steps_off b else starts i in
-      let both : (table_fault s ▹ schedule_fault s b) ≡ (table_fault s' ▹ schedule_fault s' b) = sym (then-pass refl c refl) ∙ schedule ∙ then-pass refl c' refl in
+      let both : (table_fault s ▹ schedule_fault s b) ≡ (table_fault s' ▹ schedule_fault s' b) = sym (then_pass refl c refl) ∙ schedule ∙ then_pass refl c' refl in
       λ i. refused 10 if no_trailer b else refused 11 if out_of_bundle b else both i
     where
       start : (x : ℕ) → ◌≡◌ {A = ℕ} (14 if not_initial s x else 0) (14 if not_initial s' x else 0)
@@ -135,8 +135,8 @@ module _ (s s' : List ℕ) (E : SameTable s s') where
         initial = λ x. and_same x E.states (initial-same x) i;
         accepting = λ x. and_same x E.states (λ h. ap (λ (y : ℕ). mem y 1) (E.flags x h)) i;
         has_sent = λ x m. and_same x E.states (λ h. ap (λ (y : ℕ). mem y m) (E.sent x h)) i;
-        from = λ r. if-same z.rules r (λ h. E.from r (rw er at h)) i;
-        to = λ r. if-same z.rules r (λ h. E.to r (rw er at h)) i;
+        from = λ r. if_same z.rules r (λ h. E.from r (rw er at h)) i;
+        to = λ r. if_same z.rules r (λ h. E.to r (rw er at h)) i;
         met = λ r m c. met r m c i;
       }
     where

@@ -14,7 +14,7 @@ use Rattle.senders.specs.Set.{mem}
 use Rattle.senders.proofs.TallyLaws.{every-same, least_first, least-found, count_only}
 use Rattle.fault.specs.Tests.{◌at_least◌, ◌differs◌}
 use Rattle.fault.specs.Fault.{◌if◌else◌}
-use Rattle.fault.proofs.FaultLaws.{if-keeps}
+use Rattle.fault.proofs.FaultLaws.{if_keeps}
 use Rattle.paper.specs.Paper.{Design, Step, newly, silent, is_stop}
 use Rattle.paper.specs.Words.{sent_at, stopped_at, cell, sent, hear, tell, stop, state}
 use Rattle.paper.specs.Form.{wide, bump}
@@ -184,7 +184,7 @@ fault-kept d s e l K w x =
 
 -- what holds of a stop and of a rule's words holds of a step's
 by_stop_lem : (P : List ℕ → Type 0) (s : Sizes) (e w : List ℕ) (x : Step) → P (stop s.correct s.types (wide s.level) x.board w) → P (kept_taken s e w x) → P (kept_stepped s e w x)
-by_stop_lem P s e w x a b = if-keeps P _ (is_stop x) _ (λ z. a) (λ z. b)
+by_stop_lem P s e w x a b = if_keeps P _ (is_stop x) _ (λ z. a) (λ z. b)
 
 pub stepped_kept : (d : Design) (s : Sizes) (e : List ℕ) → KeptEnds d s e → (w : List ℕ) (x : Step) → (is_stop x ≡ false → x.rule < s.rules) → stepped s.level d w x ≡ kept_stepped s e w x
 unfolding stepped ◌if◌else◌
@@ -200,12 +200,12 @@ length-stepped s e w x = by_stop_lem (λ (v : List ℕ). length v ≡ length w) 
 
 -- ---- what a step leaves
 pub length-left : (s : Sizes) (e l w : List ℕ) (x : Step) → length (kept_left s e l w x) ≡ length w
-length-left s e l w x = if-keeps (λ (v : List ℕ). length v ≡ length w) _ (eqb (kept_fault s e l w x) 0) _ (λ z. length-stepped s e w x) (λ z. refl)
+length-left s e l w x = if_keeps (λ (v : List ℕ). length v ≡ length w) _ (eqb (kept_fault s e l w x) 0) _ (λ z. length-stepped s e w x) (λ z. refl)
 
 pub grown-left : (s : Sizes) (e l w : List ℕ) (x : Step) → kept_to e x.rule < 256 → Grown s w (kept_left s e l w x)
 grown-left s e l w x b k h H =
     let wider = holds_more s k (k + 2) w (omega arith) H in
-    if-keeps (Holds s (k + 2)) _ (eqb (kept_fault s e l w x) 0) _ (λ z. by_stop_lem (Holds s (k + 2)) s e w x (holds-stop s (k + 2) w x.board wider) (grown-taken s e w x b k h H)) (λ z. wider)
+    if_keeps (Holds s (k + 2)) _ (eqb (kept_fault s e l w x) 0) _ (λ z. by_stop_lem (Holds s (k + 2)) s e w x (holds-stop s (k + 2) w x.board wider) (grown-taken s e w x b k h H)) (λ z. wider)
 
 -- the rule of a step that is accepted and no stop
 pub rule_of_lem : (s : Sizes) (e l w : List ℕ) (x : Step) → kept_fault s e l w x ≡ 0 → is_stop x ≡ false → x.rule < s.rules

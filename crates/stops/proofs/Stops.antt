@@ -8,7 +8,7 @@ use native.Mathlib.Omega.{arith}
 use lib.ListN.{length}
 use Rattle.senders.proofs.SetLaws.{count_laws}
 use Rattle.fault.specs.Fault.{◌if◌else◌}
-use Rattle.fault.proofs.FaultLaws.{if-keeps}
+use Rattle.fault.proofs.FaultLaws.{if_keeps}
 use Rattle.paper.specs.Paper.{Design, Step, is_stop, stopped_count}
 use Rattle.paper.specs.Words.{size}
 use Rattle.paper.specs.Form.{wide}
@@ -26,14 +26,14 @@ use Rattle.stops.proofs.Wakes.{Wakes, wakes_itself, rule_too, stop_alone}
 pub no_stops : (ss : List Step) → NoStops (without_stops ss)
 unfolding without_stops
 no_stops [] = tt
-no_stops (s ∷ ss) = if-keeps NoStops _ (is_stop s) _ (λ _. no_stops ss) (λ e. (e, no_stops ss))
+no_stops (s ∷ ss) = if_keeps NoStops _ (is_stop s) _ (λ _. no_stops ss) (λ e. (e, no_stops ss))
 
 no_longer : (ss : List Step) → length (without_stops ss) ≤ length ss
 unfolding without_stops
 no_longer [] = omega arith
 no_longer (s ∷ ss) =
     let h = no_longer ss in
-    if-keeps (λ (ts : List Step). length ts ≤ length (s ∷ ss)) _ (is_stop s) _ (λ _. omega (arith, h)) (λ _. omega (arith, h))
+    if_keeps (λ (ts : List Step). length ts ≤ length (s ∷ ss)) _ (is_stop s) _ (λ _. omega (arith, h)) (λ _. omega (arith, h))
 
 module _ (s : Step) (ss : List Step) where
   leaves-out : is_stop s ≡ true → without_stops (s ∷ ss) ≡ without_stops ss

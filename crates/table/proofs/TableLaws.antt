@@ -12,7 +12,7 @@ use Rattle.senders.proofs.TallyLaws.{count-zero, some-found, some-never}
 use Rattle.senders.proofs.WordLaws.{shl_one}
 use Rattle.fault.specs.Tests.{◌over◌, ◌at_least◌, ◌differs◌, outside}
 use Rattle.fault.specs.Fault.{refused, ◌if◌else◌, first_fault}
-use Rattle.fault.proofs.FaultLaws.{if-passed, then-clean, first-clean, Clean, if-most, Within, check_within, then-within, first-within}
+use Rattle.fault.proofs.FaultLaws.{if_passed, then_clean, first-clean, Clean, if_most, Within, check_within, then_within, first-within}
 use Rattle.fault.proofs.TestLaws.{or-none, inside, same}
 use Rattle.fault.specs.Bytes.{trailer_bytes}
 use Rattle.table.specs.Table.{state_distance, rule_distance, states_of, rules_of, types_byte, types_of, factor_of, most_states, most_rules, most_factor, flags_of, initial_of, sent_of, rule_size, most_records, most_table, rule_at, from_of, rule_of, state_bytes, records_bytes}
@@ -93,7 +93,7 @@ unfolding state_off
 state-off_law {x} {f} {m} {b} s i z ex ef em eb = rw (ex, ef, em, eb, shl_one (types_of s) (omega (arith, z.few_types)))
 
 none : (k : ℕ) (t : Bool) (rest : ℕ) → (k ≡ 0 → ⊥) → (k if t else rest) ≡ 0 → (t ≡ false) × (rest ≡ 0)
-none k t rest n h = if-passed (λ (x : ℕ). x ≡ 0) k t rest n h
+none k t rest n h = if_passed (λ (x : ℕ). x ≡ 0) k t rest n h
 
 initial-unsent : (a : Bool) (x : ℕ) → (a && x over 0) ≡ false → a ≡ true → x ≡ 0
 initial-unsent true x h e = omega (arith, ltb-false 0 x h)
@@ -146,11 +146,11 @@ initial-never s e p h w = ap not (some-never (initial_of s) e p h w)
 pub well_formed : (s : List ℕ) → Clean (table_fault s) → WellFormed s
 unfolding table_fault records_fault no_initial
 well_formed s h =
-    let a = if-passed Clean (refused 1) (too_short s) _ (λ z. omega arith) h in
-    let b = if-passed Clean (refused 2) (counts_off s) _ (λ z. omega arith) a.1 in
-    let d = if-passed Clean (refused 3) (distances_off s) _ (λ z. omega arith) b.1 in
-    let e = then-clean (first_fault (state_fault s) (states_of s)) _ d.1 in
-    let f = if-passed Clean (refused 5) (no_initial s) _ (λ z. omega arith) e.1 in
+    let a = if_passed Clean (refused 1) (too_short s) _ (λ z. omega arith) h in
+    let b = if_passed Clean (refused 2) (counts_off s) _ (λ z. omega arith) a.1 in
+    let d = if_passed Clean (refused 3) (distances_off s) _ (λ z. omega arith) b.1 in
+    let e = then_clean (first_fault (state_fault s) (states_of s)) _ d.1 in
+    let f = if_passed Clean (refused 5) (no_initial s) _ (λ z. omega arith) e.1 in
     record {
       sized = sized s a.0 b.0 d.0;
       state = λ i l. state-fits s i (first-clean (state_fault s) (states_of s) e.0 i l);
@@ -166,16 +166,16 @@ records_short n m byte a b c = omega (arith, mul-le-mul_right {m = m} {n = most_
 module _ (s : List ℕ) where
   state_most : (i : ℕ) → state_fault s i ≤ 14
   unfolding state_fault
-  state_most i = if-most _ (omega arith) (omega arith)
+  state_most i = if_most _ (omega arith) (omega arith)
 
   rule_most : (r : ℕ) → rule_fault s r ≤ 14
   unfolding rule_fault
-  rule_most r = if-most _ (omega arith) (if-most _ (omega arith) (if-most _ (omega arith) (if-most _ (omega arith) (omega arith))))
+  rule_most r = if_most _ (omega arith) (if_most _ (omega arith) (if_most _ (omega arith) (if_most _ (omega arith) (omega arith))))
 
   records_within : Sized s → Within 14 64 (records_fault s)
   unfolding records_fault
   records_within z =
-      then-within (first-within 14 64 (state_fault s) state_most (states_of s) (omega (arith, z.few_states)))
+      then_within (first-within 14 64 (state_fault s) state_most (states_of s) (omega (arith, z.few_states)))
       (check_within _ (omega arith) (λ _. first-within 14 64 (rule_fault s) rule_most (rules_of s) z.few_rules))
 
   pub table-within : Within 14 64 (table_fault s)

@@ -10,7 +10,7 @@ use borrow.Author.Tests.{eq-eqb, le-ltb}
 use Rattle.fault.specs.Bytes.{byte_at, trailer_bytes}
 use Rattle.fault.specs.Tests.{◌differs◌, outside}
 use Rattle.fault.specs.Fault.{refused, ◌if◌else◌}
-use Rattle.fault.proofs.FaultLaws.{if-passed, Clean}
+use Rattle.fault.proofs.FaultLaws.{if_passed, Clean}
 use Rattle.fault.proofs.TestLaws.{or-none, same}
 use Rattle.layout.specs.Layout.{types_in, rule_bytes}
 use Rattle.table.specs.Table.{state_distance, rule_distance, states_of, rules_of, types_byte, types_of, factor_of, rule_size, state_bytes, records_bytes}
@@ -45,9 +45,9 @@ pub record Distances (s : List ℕ) : Type 0 where
 pub distances : (s : List ℕ) → Clean (table_fault s) → Distances s
 unfolding table_fault distances_off
 distances s h =
-    let a = if-passed Clean (refused 1) (too_short s) _ (λ z. omega arith) h in
-    let b = if-passed Clean (refused 2) (counts_off s) _ (λ z. omega arith) a.1 in
-    let d = if-passed Clean (refused 3) (distances_off s) _ (λ z. omega arith) b.1 in
+    let a = if_passed Clean (refused 1) (too_short s) _ (λ z. omega arith) h in
+    let b = if_passed Clean (refused 2) (counts_off s) _ (λ z. omega arith) a.1 in
+    let d = if_passed Clean (refused 3) (distances_off s) _ (λ z. omega arith) b.1 in
     let e = or-none (state_distance s differs records_bytes (states_of s) (rules_of s) (types_byte s) || rule_distance s differs rules_of s * rule_size s) _ d.0 in
     let f = or-none (state_distance s differs records_bytes (states_of s) (rules_of s) (types_byte s)) _ e.0 in
     record { sizes = sized s a.0 b.0 d.0; to_states = same _ _ f.0; to_rules = same _ _ f.1 }

@@ -2,7 +2,7 @@
 use borrow.Author.Rules.{rules}
 use Rattle.bundle.proofs.BundleLaws.{trailer_by, trailed, table-sized}
 use Rattle.bundle.specs.Refusals.{fault_with}
-use Rattle.fault.proofs.FaultLaws.{if_yes, if_no, then-stop, then-pass}
+use Rattle.fault.proofs.FaultLaws.{if_yes, if_no, then_stop, then_pass}
 use Rattle.bundle.proofs.fault_with.Statement.{statement}
 use Rattle.bundle.proofs.fault_with.Tie as tie
 
@@ -21,8 +21,8 @@ fault_with_spec =
     (λ c. search (if_yes, if_no, rules))
     (λ c κs. search rules)
     -- returns-3
-    (λ c. search (if_no, then-stop))
+    (λ c. search (if_no, then_stop))
     -- schedule-fault-requires
     (λ c κs. (search table-sized, search trailed))
     -- returns-4
-    (λ c. search (if_no, then-pass)))
+    (λ c. search (if_no, then_pass)))

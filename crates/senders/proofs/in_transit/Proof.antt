@@ -5,8 +5,8 @@ use Rattle.senders.proofs.WordLaws.{mem-transit}
 use Rattle.senders.proofs.in_transit.Statement.{statement}
 use Rattle.senders.proofs.in_transit.Tie as tie
 
-pub in-transit-spec : {M : Type 1} → statement M
-in-transit-spec =
+pub in_transit_spec : {M : Type 1} → statement M
+in_transit_spec =
     tie.close
     (tie.spec
     (λ c κs. search rules) (λ c κs. search rules)

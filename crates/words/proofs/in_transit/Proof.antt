@@ -9,9 +9,9 @@ use Rattle.paper.specs.Form.{wide, shown}
 use Rattle.words.proofs.in_transit.Statement.{statement}
 use Rattle.words.proofs.in_transit.Tie as tie
 
-pub in-transit-spec : {M : Type 1} → statement M
+pub in_transit_spec : {M : Type 1} → statement M
 unfolding sent_at size
-in-transit-spec =
+in_transit_spec =
     tie.close
     (tie.spec
     (λ c κs. search rules) (λ c κs. search rules) (λ c κs. search rules) (λ c. search rules) (λ c. search rules) (λ c. search rules) (λ c. search rules)

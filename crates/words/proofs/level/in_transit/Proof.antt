@@ -9,9 +9,9 @@ use Rattle.paper.specs.Paper.{column}
 use Rattle.words.proofs.level.in_transit.Statement.{statement}
 use Rattle.words.proofs.level.in_transit.Tie as tie
 
-pub in-transit-spec : {M : Type 1} → statement M
+pub in_transit_spec : {M : Type 1} → statement M
 unfolding coll shown
-in-transit-spec =
+in_transit_spec =
     tie.close
     (tie.spec
     (λ c κs. search rules)
