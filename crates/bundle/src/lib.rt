@@ -1,4 +1,6 @@
 // The whole bundle: the table in use, refusals 10 to 14 with the table's own among them, and the views that stepping needs.
+#![tactic(auto)]
+
 ghost use Rattle.std.specs.Prelude.{◌≡◌, ◌+◌, ◌≤◌, ◌<◌, length};
 ghost use Rattle.fault.specs.Bytes.{trailer_of, trailer_bytes};
 ghost use Rattle.fault.specs.Fault.{first_fault};

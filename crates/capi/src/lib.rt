@@ -1,4 +1,6 @@
 // The library that others link: each exported function is a thin call, its answer packed as macaroosh.h says.
+#![tactic(auto)]
+
 ghost use Rattle.std.specs.Prelude.{◌≡◌, ◌≤◌, length};
 ghost use Rattle.fault.specs.Tests.{◌below◌};
 ghost use Rattle.fault.specs.Fault.{◌if◌else◌};

@@ -25,10 +25,10 @@ use Rattle.words.specs.Words.{room_of}
 use Rattle.words.specs.Facts.{most_words}
 use Rattle.schedule.specs.Records.{bytes_of}
 use Rattle.schedule.proofs.RecordLaws.{length-bytes}
-use Rattle.log.specs.Line.{log_of, AllSayable}
-use Rattle.log.specs.Lines.{log_fault, log_steps, Sound}
-use Rattle.log.proofs.LinesLaws.{steps-few}
-use Rattle.log.proofs.LogExact.{exact, Judgement, right, wrong_at, long_at, judgement}
+use Rattle.service_log.specs.Line.{log_of, AllSayable}
+use Rattle.service_log.specs.Lines.{log_fault, log_steps, Sound}
+use Rattle.service_log.proofs.LinesLaws.{steps-few}
+use Rattle.service_log.proofs.LogExact.{exact, Judgement, right, wrong_at, long_at, judgement}
 use Rattle.engine.specs.Design.{sizes_in}
 use Rattle.engine.specs.Entry.{schedule_of, ran_of, ran_answer, run_answer, run_words}
 use Rattle.engine.proofs.BoundLaws.{run-answer-within, schedule-few}

@@ -5,8 +5,8 @@ use Rattle.fault.specs.Bytes.{byte_at, trailer_of, two_bytes, step_bytes}
 use Rattle.fault.specs.declared.Answer.{Answer}
 use Rattle.bundle.specs.Bundle.{n_of, t_of, f_of, form_of, correct_of, table_in_use, starts_of, steps_at}
 use Rattle.bundle.specs.Refusals.{read_fault}
-use Rattle.log.specs.Line.{log_of, AllSayable}
-use Rattle.log.specs.Lines.{Wrong, TooLong, Sound, Exact}
+use Rattle.service_log.specs.Line.{log_of, AllSayable}
+use Rattle.service_log.specs.Lines.{Wrong, TooLong, Sound, Exact}
 use Rattle.engine.specs.Entry.{schedule_of, run_answer, run_words}
 use Rattle.translate.specs.Entry.{translation_of, no_other}
 use Rattle.paper.specs.Paper.{Step}

@@ -1,1 +1,2 @@
 // Theorems about the definitions of the crates below; there is no code here.
+#![tactic(auto)]

@@ -1,5 +1,7 @@
 // A run, with how many of its accepted steps receive a message and how many send a new type. Both are read off the words that the run
 // leaves, so that no step takes longer.
+#![tactic(auto)]
+
 ghost use Rattle.std.specs.Prelude.{◌≡◌, ◌≤◌, ◌<◌, length};
 ghost use Rattle.words.specs.Words.{room_of};
 ghost use Rattle.words.specs.Facts.{at_end, Bounded, Holds};
@@ -14,7 +16,7 @@ use fault::Answer;
 use words::Sizes;
 
 // The run's answer, and the two numbers.
-#[derive(Drop)]
+#[derive(Clone, Copy)]
 pub struct Counted {
     pub answer: Answer,
     pub receipts: u64,

@@ -1,9 +1,11 @@
 // Numbers in plain decimal, read digit by digit; how they are written is a definition (specs/Numbers.antt).
+#![tactic(auto)]
+
 ghost use Rattle.std.specs.Prelude.{◌≡◌, ◌≤◌, length};
 ghost use Rattle.decimal.specs.Digits.{is_digit, peeked, goes_on, Ends};
 
 // A number that was read, and the place after it.
-#[derive(Drop)]
+#[derive(Clone, Copy)]
 pub struct Number {
     pub place: usize,
     pub value: usize,

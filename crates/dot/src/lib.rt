@@ -1,9 +1,11 @@
 // The text of a drawing and what may stand in it: definitions and theorems, and how a label is laid out; the rest of the code is in `pen` and `drawing`.
+#![tactic(auto)]
+
 ghost use Rattle.std.specs.Prelude.{◌≡◌, ◌+◌, ◌%◌, ◌≤◌, ◌<◌};
 ghost use Rattle.dot.specs.Text.{state_shape, rule_shape};
 
 // A label's groups: how many numbers each has, and how many of those, from its first on, may be below 0.
-#[derive(Drop)]
+#[derive(Clone, Copy)]
 pub struct Shape {
     pub group: usize,
     pub signed: usize,

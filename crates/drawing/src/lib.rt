@@ -1,4 +1,6 @@
 // Drawings of a table: written from its bytes, and read back to them.
+#![tactic(auto)]
+
 ghost use Rattle.std.specs.Prelude.{◌≡◌, ◌≤◌, ◌<◌, length};
 ghost use Rattle.ink.specs.Ink.{stored};
 ghost use Rattle.layout.specs.Layout.{types_in};
@@ -15,7 +17,7 @@ pub mod pieces; // a text read piece by piece
 pub mod lines; // and line by line
 
 // Where reading stands: at which byte, whether no drawing goes on there, and the number read last.
-#[derive(Drop)]
+#[derive(Clone, Copy)]
 pub struct Cursor {
     pub place: usize,
     pub stuck: bool,
@@ -23,7 +25,7 @@ pub struct Cursor {
 }
 
 // What has been read up to the end of a line: its counts, the types byte for that of types, and how many bytes of the table's records.
-#[derive(Drop)]
+#[derive(Clone, Copy)]
 pub struct Reader {
     pub place: usize,
     pub stuck: bool,

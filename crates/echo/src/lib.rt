@@ -1,4 +1,6 @@
 // The echo table and schedule W (outline, "The echo table and one bundle"), for programs.
+#![tactic(auto)]
+
 ghost use Rattle.std.specs.Prelude.{◌≡◌};
 ghost use Rattle.echo.specs.Echo as echo;
 

@@ -1,10 +1,12 @@
 // Bundles at the edges of reading, each printed with its refusal and place. The file stdout has what the outline says.
+#![tactic(auto)]
+
 ghost use Rattle.std.specs.Prelude.{◌≤◌, ◌<◌, length};
 
 use fault::Verdict;
 
 // A table of zero bytes but for the first state's initial flag, then a schedule of zero bytes, each with its trailer.
-#[derive(Drop)]
+#[derive(Clone, Copy)]
 struct Case {
     states: u8,
     rules: u8,

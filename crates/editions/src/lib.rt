@@ -1,4 +1,6 @@
 // A table moved to the other edition of rules.
+#![tactic(auto)]
+
 ghost use Rattle.std.specs.Prelude.{◌≡◌, ◌+◌, ◌≤◌, ◌<◌, length};
 ghost use Rattle.senders.specs.Tally.{some};
 ghost use Rattle.fault.specs.Fault.{fine, first_fault};

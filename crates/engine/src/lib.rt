@@ -1,4 +1,6 @@
 // A bundle's run: the one beginning of a call, the first configuration, and the steps one after the other, in lent words.
+#![tactic(auto)]
+
 ghost use Rattle.std.specs.Prelude.{◌≡◌, ◌++◌, ◌+◌, ◌/◌, ◌≤◌, ◌<◌, length, drop, replicate};
 ghost use Rattle.paper.specs.Words.{start};
 ghost use Rattle.paper.specs.Form as forms;
@@ -15,7 +17,7 @@ use fault::Answer;
 use words::Sizes;
 
 // What the beginning of a call gives: the refusal of reading and its place; or 0, and the numbers that stepping goes by.
-#[derive(Drop)]
+#[derive(Clone, Copy)]
 pub struct Opened {
     pub number: usize,
     pub place: usize,

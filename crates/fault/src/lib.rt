@@ -1,4 +1,6 @@
 // What every reading stage says and reads: verdicts, bytes and little-endian numbers.
+#![tactic(auto)]
+
 ghost use Rattle.std.specs.Prelude.{◌≡◌, ◌+◌, ◌-◌, ◌*◌, ◌/◌, ◌%◌, ◌≤◌, ◌<◌, length};
 ghost use Rattle.fault.specs.Bytes.{byte_at, u16_at, trailer_bytes, trailer_of};
 ghost use Rattle.fault.specs.Tests as tests;
@@ -8,14 +10,14 @@ ghost use Rattle.fault.specs.Fault.{verdict};
 pub const TRAILER_BYTES: usize = 8;
 
 // A refusal and its place; 0 and 0 where nothing is refused.
-#[derive(Drop)]
+#[derive(Clone, Copy)]
 pub struct Verdict {
     pub number: usize,
     pub place: usize,
 }
 
 // What a call answers: refusal, place and a count.
-#[derive(Drop)]
+#[derive(Clone, Copy)]
 pub struct Answer {
     pub refusal: u64,
     pub place: u64,

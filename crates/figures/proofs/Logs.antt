@@ -19,9 +19,9 @@ use Rattle.paper.specs.Machine.{run_by, follow_all}
 use Rattle.engine.specs.Entry.{ran_with, ran_answer, run_answer, run_words}
 use Rattle.decimal.specs.Numbers.{decimal}
 use Rattle.decimal.specs.Digits.{is_digit, goes_on, peeked, longest}
-use Rattle.log.specs.Line.{message_of, line_of, log_of}
-use Rattle.log.specs.Said.{begins, counted, numbered, ends, ended as feed_ended, hearing, said_by}
-use Rattle.log.specs.Lines.{judged, fault_from, taken, steps_from}
+use Rattle.service_log.specs.Line.{message_of, line_of, log_of}
+use Rattle.service_log.specs.Said.{begins, counted, numbered, ends, ended as feed_ended, hearing, said_by}
+use Rattle.service_log.specs.Lines.{judged, fault_from, taken, steps_from}
 use Rattle.replay.specs.Made.{raised, made}
 use Rattle.replay.specs.Entry.{not_empty, no_room, replay_fault, replay_answer, replay_bytes, replay_words}
 use Rattle.figures.specs.Case.{Every}

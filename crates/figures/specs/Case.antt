@@ -10,7 +10,7 @@ use Rattle.translate.specs.Entry.{translate_answer, translate_bytes, translate_t
 use Rattle.first_step.specs.declared.First.{First}
 use Rattle.first_step.specs.Entry.{first_answer}
 use Rattle.decimal.specs.Numbers.{text}
-use Rattle.log.specs.Lines.{fault_from}
+use Rattle.service_log.specs.Lines.{fault_from}
 use Rattle.replay.specs.Entry.{replay_answer, replay_bytes, replay_words}
 use Rattle.drawing.specs.Entry.{draw_answer, draw_bytes, undraw_answer, undraw_bytes}
 use Rattle.editions.specs.Entry.{to_second_answer, to_second_bytes, to_first_answer, to_first_bytes}

@@ -3,7 +3,7 @@ use Rattle.std.specs.Prelude.{List, [], ◌∷◌, ◌++◌, ℕ, replicate}
 use Rattle.decimal.specs.Numbers.{text, decimal}
 use Rattle.bundle.specs.Bundle.{steps_of}
 use Rattle.schedule.specs.Records.{steps_in}
-use Rattle.log.specs.Line.{log_of}
+use Rattle.service_log.specs.Line.{log_of}
 use Rattle.echo.specs.Echo.{echo, five_steps, W}
 use Rattle.figures.specs.Case.{Case, runs, replays, judges, schedule_in, schedule}
 use Rattle.figures.specs.Outline.{pair, pair_in, senders}

@@ -25,8 +25,8 @@ use Rattle.paper.specs.Order.{or_else, seek, tries, first, possible}
 use Rattle.first_step.specs.Entry.{after_run, first_answer}
 use Rattle.decimal.specs.Numbers.{decimal}
 use Rattle.decimal.specs.Digits.{is_digit, goes_on, peeked, longest}
-use Rattle.log.specs.Said.{begins, counted, numbered, ends, ended as feed_ended, hearing, said_by}
-use Rattle.log.specs.Lines.{judged, fault_from, taken, steps_from}
+use Rattle.service_log.specs.Said.{begins, counted, numbered, ends, ended as feed_ended, hearing, said_by}
+use Rattle.service_log.specs.Lines.{judged, fault_from, taken, steps_from}
 use Rattle.replay.specs.Made.{raised, made}
 use Rattle.replay.specs.Entry.{not_empty, no_room, replay_fault, replay_answer, replay_bytes, replay_words}
 use Rattle.tries.specs.Tries.{each, of_rule, of_board, all_tries}

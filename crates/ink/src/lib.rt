@@ -1,4 +1,6 @@
 // Bytes put one after the other into lent memory, so far as they fit; what does not fit is counted too.
+#![tactic(auto)]
+
 ghost use Rattle.std.specs.Prelude.{◌≡◌, [], ◌∷◌, ◌+◌, ◌≤◌, ◌<◌, length};
 ghost use Rattle.ink.specs.Ink.{places, stored, Put};
 

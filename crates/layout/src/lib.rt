@@ -1,4 +1,6 @@
 // The record of a rule, by the types byte: T in the first edition, 16 more in the second, where each type has a divisor too.
+#![tactic(auto)]
+
 ghost use Rattle.std.specs.Prelude.{◌≡◌, ◌+◌, ◌≤◌, ◌<◌, length};
 ghost use Rattle.fault.specs.Bytes.{byte_at};
 ghost use Rattle.senders.specs.Tally.{some};

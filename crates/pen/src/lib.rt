@@ -1,4 +1,6 @@
 // A table's drawing, written into lent bytes so far as they reach; what does not fit is counted too.
+#![tactic(auto)]
+
 ghost use Rattle.std.specs.Prelude.{◌≡◌, [], ◌∷◌, ◌++◌, ◌+◌, ◌*◌, ◌≤◌, ◌<◌, length};
 ghost use Rattle.table.specs.Table.{states_of, rules_of, types_byte, factor_of, rule_at, state_bytes};
 ghost use Rattle.table.specs.Facts.{Sized};

@@ -11,8 +11,8 @@ use Rattle.fault.specs.Tests.{◌differs◌}
 use Rattle.fault.proofs.FaultLaws.{if_keeps, Within, check_within, then_within}
 use Rattle.bundle.specs.Bundle.{table_in_use}
 use Rattle.bundle.proofs.BundleLaws.{read-within}
-use Rattle.log.specs.Said.{Said, nothing, said, said_by}
-use Rattle.log.specs.Lines.{judged, fault_from}
+use Rattle.service_log.specs.Said.{Said, nothing, said, said_by}
+use Rattle.service_log.specs.Lines.{judged, fault_from}
 use Rattle.engine.proofs.BoundLaws.{run-answer-within}
 use Rattle.replay.specs.Entry.{not_empty, made_of, no_room, replay_fault, replay_answer}
 

@@ -19,8 +19,8 @@ use Rattle.bundle.specs.Refusals.{read_fault}
 use Rattle.bundle.specs.Facts.{Read}
 use Rattle.words.specs.declared.Sizes.{Sizes}
 use Rattle.words.specs.Words.{room_of}
-use Rattle.log.specs.Lines.{log_fault, log_steps}
-use Rattle.log.proofs.LinesLaws.{steps-few}
+use Rattle.service_log.specs.Lines.{log_fault, log_steps}
+use Rattle.service_log.proofs.LinesLaws.{steps-few}
 use Rattle.engine.specs.Design.{sizes_in}
 use Rattle.paper.specs.Run.{run}
 use Rattle.rules.specs.Kept.{ByDesign}

@@ -8,7 +8,7 @@ use Rattle.fault.specs.declared.Answer.{Answer}
 use Rattle.bundle.specs.Bundle.{step_distance, form_of}
 use Rattle.bundle.specs.Refusals.{read_fault}
 use Rattle.words.specs.Words.{room_of}
-use Rattle.log.specs.Lines.{log_fault, log_steps}
+use Rattle.service_log.specs.Lines.{log_fault, log_steps}
 use Rattle.engine.specs.Design.{sizes_in}
 use Rattle.engine.specs.Entry.{run_answer, run_words}
 use Rattle.replay.specs.Made.{made}

@@ -1,9 +1,11 @@
 // A service log replayed: its lines become the steps of a bundle that has none, which is written and then run.
+#![tactic(auto)]
+
 ghost use Rattle.std.specs.Prelude.{◌≡◌, ◌++◌, ◌+◌, ◌*◌, ◌≤◌, ◌<◌, length};
 ghost use Rattle.fault.specs.Bytes.{trailer_bytes, step_bytes};
 ghost use Rattle.bundle.specs.Bundle.{step_distance, start_distance};
 ghost use Rattle.schedule.specs.Records.{bytes_of};
-ghost use Rattle.log.specs.Lines.{log_steps};
+ghost use Rattle.service_log.specs.Lines.{log_steps};
 ghost use Rattle.paper.specs.Run as runs;
 ghost use Rattle.words.specs.Words.{room_of};
 ghost use Rattle.words.specs.Facts.{Bounded};
@@ -55,7 +57,7 @@ fn replay_with<'a>(
     if not_empty(bundle) {
         return fault::answered(52, 0, 0);
     }
-    let v = log::check_lines(log);
+    let v = service_log::check_lines(log);
     if v.number != 0 {
         return fault::answered(v.number, v.place, 0);
     }
@@ -119,7 +121,7 @@ fn append(bundle: &[u8], log: &[u8], out: &mut [u8])
     ensures { out.new ≡ bytes_of (log_steps log.now) ++ raised bundle.now (length (log_steps log.now) * step_bytes) }
 {
     let more = out.len() - fault::TRAILER_BYTES;
-    log::take_lines(log, &mut out[..more]);
+    service_log::take_lines(log, &mut out[..more]);
     close(bundle, more, &mut out[more..]);
 }
 

@@ -1,5 +1,7 @@
 // The report program: a bundle on standard input, what its run comes to on standard output (outline, "The echo table and one
 // bundle"). Its standing table is the echo table.
+#![tactic(auto)]
+
 ghost use Rattle.std.specs.Prelude.{◌≡◌, ◌≤◌, ◌<◌, length};
 ghost use Rattle.words.specs.Words.{room_of};
 ghost use Rattle.rules.specs.Kept.{kept_room};

@@ -1,5 +1,7 @@
 // A table with n and t made ready for stepping, read once a call: what a step needs of a rule stands in its place, and a
 // threshold is one number.
+#![tactic(auto)]
+
 ghost use Rattle.std.specs.Prelude.{◌≡◌, ◌+◌, ◌*◌, ◌≤◌, ◌<◌, length, set};
 ghost use Rattle.senders.specs.Set.{most_tolerated};
 ghost use Rattle.threshold.specs.Threshold.{threshold_of, least_of};

@@ -1,11 +1,13 @@
 // A step of a schedule by value, and its record of 4 bytes: board, rule, type, source.
+#![tactic(auto)]
+
 ghost use Rattle.std.specs.Prelude.{◌≡◌, ◌+◌, ◌*◌, ◌≤◌, ◌<◌, length, set};
 ghost use Rattle.fault.specs.Bytes.{most_steps};
 ghost use Rattle.paper.specs.Paper as paper;
 ghost use Rattle.schedule.specs.Records.{meant, record_at, put_record};
 
 // What a record names; `type` is a word of the language.
-#[derive(Drop)]
+#[derive(Clone, Copy)]
 pub struct Step {
     pub board: usize,
     pub rule: usize,

@@ -1,4 +1,6 @@
 // A set of up to 64 senders is a u64: bit q for sender q.
+#![tactic(auto)]
+
 ghost use Rattle.std.specs.Prelude.{◌≡◌, not, ◌&&◌, ◌||◌, ◌+◌, ◌-◌, ◌^◌, ◌≤◌, ◌<◌, ltb, leb};
 ghost use Rattle.senders.specs.Tally.{count, least};
 ghost use Rattle.senders.specs.Set.{mem, insert, missing, correct_count, faulty_count, most_boards};

@@ -1,4 +1,6 @@
 // One step: its refusal, which changes nothing, and its change of at most three words.
+#![tactic(auto)]
+
 ghost use Rattle.std.specs.Prelude.{◌≡◌, true, false, not, ◌||◌, ◌+◌, ◌≤◌, ◌<◌, eqb, length};
 ghost use Rattle.senders.specs.Tally.{digit};
 ghost use Rattle.senders.specs.Set.{correct_count};

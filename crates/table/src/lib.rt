@@ -1,4 +1,6 @@
 // The table part: refusals 1 to 9, and the views that stepping needs.
+#![tactic(auto)]
+
 ghost use Rattle.std.specs.Prelude.{◌≡◌, ◌+◌, ◌*◌, ◌≤◌, ◌<◌, length};
 ghost use Rattle.fault.specs.Bytes.{trailer_bytes};
 ghost use Rattle.senders.specs.Tally.{count};

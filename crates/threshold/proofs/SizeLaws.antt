@@ -16,7 +16,7 @@ use Rattle.threshold.specs.Threshold.{signed_byte}
 
 -- what the machine reads back from the bits of a signed number, and of an unsigned one that is small enough
 pub bits_back : (z : ℤ) → mag z < 2 ^ 63 → to_z w64 (of_z w64 z) ≡ z
-bits_back z h = to_z-of_z (record { sfits = h })
+bits_back z h = to_z-of_z {w = w64} (record { sfits = h })
 
 pub small : (n : ℕ) → n < 2 ^ 63 → to_z w64 n ≡ pos n
 small n h = bits_back (pos n) h

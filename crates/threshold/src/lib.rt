@@ -1,11 +1,13 @@
 // Thresholds: (a·n + b·t + d)/e rounded up, as the least count that meets one. Signed numbers stay inside this crate.
+#![tactic(auto)]
+
 ghost use Rattle.std.specs.Prelude.{◌≡◌, ◌+◌, ◌-◌, ◌/◌, ◌≤◌, ◌<◌, pos, ◌+ℤ◌, ◌*ℤ◌};
 ghost use Rattle.std.specs.Int.Signed.{mag};
 ghost use Rattle.senders.specs.Set.{most_boards, most_tolerated};
 ghost use Rattle.threshold.specs.Threshold.{signed_byte, sum_of, threshold_of, least_of};
 
 // What a rule says of one type: three signed bytes and a divisor.
-#[derive(Drop)]
+#[derive(Clone, Copy)]
 pub struct Weights {
     pub a: u8,
     pub b: u8,

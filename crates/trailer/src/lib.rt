@@ -1,4 +1,6 @@
 // The trailer of a table, written after its records.
+#![tactic(auto)]
+
 ghost use Rattle.std.specs.Prelude.{◌+◌, ◌≤◌, ◌<◌};
 ghost use Rattle.fault.specs.Bytes.{trailer_bytes};
 ghost use Rattle.layout.specs.Layout.{types_in};

@@ -1,4 +1,6 @@
 // Translation: a bundle with its schedule in another form, for every bundle, standing table, form and lent slice.
+#![tactic(auto)]
+
 ghost use Rattle.std.specs.Prelude.{◌≡◌, ◌&&◌, map, suc, ◌+◌, ◌-◌, ◌*◌, ◌≤◌, ◌<◌, eqb, length, set};
 ghost use Rattle.senders.specs.Tally.{least};
 ghost use Rattle.fault.specs.Bytes.{most_steps};

@@ -1,4 +1,6 @@
 // The words of a configuration: where a cell and a sent word stand, what they show, and the changes that a step makes.
+#![tactic(auto)]
+
 ghost use Rattle.std.specs.Prelude.{◌≡◌, ◌+◌, ◌≤◌, ◌<◌, length, set};
 ghost use Rattle.senders.specs.Tally.{least};
 ghost use Rattle.senders.specs.Set.{mem, correct_count};
@@ -11,7 +13,7 @@ ghost use Rattle.words.specs.Facts.{in_step, most_words, Bounded, Holds, At, Sou
 pub mod level; // what the words of a cell come to, by the level's number
 
 // The numbers that stepping goes by; rules are counted here so that a step has them beside the others.
-#[derive(Drop)]
+#[derive(Clone, Copy)]
 pub struct Sizes {
     // 0 message, 1 counting, 2 plain
     pub level: usize,

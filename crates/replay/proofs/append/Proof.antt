@@ -7,8 +7,8 @@ use lib.ListN.{length}
 use lib.Seq.{length-take-le}
 use borrow.Author.Rules.{rules}
 use Rattle.fault.specs.Bytes.{most_steps, trailer_bytes}
-use Rattle.log.specs.Lines.{log_steps}
-use Rattle.log.proofs.LinesLaws.{steps-few}
+use Rattle.service_log.specs.Lines.{log_steps}
+use Rattle.service_log.proofs.LinesLaws.{steps-few}
 use Rattle.replay.specs.Made.{raised}
 use Rattle.replay.proofs.MadeLaws.{tail_long, put_tail, steps-fill, filled_long}
 use Rattle.replay.proofs.append.Statement.{statement}

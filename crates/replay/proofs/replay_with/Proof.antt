@@ -9,7 +9,7 @@ use lib.Seq.{length-take-le}
 use borrow.Author.Rules.{rules}
 use Rattle.fault.specs.Bytes.{most_steps, step_bytes}
 use Rattle.bundle.proofs.BundleLaws.{read_short}
-use Rattle.log.proofs.LinesLaws.{steps-few}
+use Rattle.service_log.proofs.LinesLaws.{steps-few}
 use Rattle.engine.proofs.EntryLaws.{opens_unread, opens_clean, nothing_done_lem}
 use Rattle.replay.proofs.EntryLaws.{no_steps, blank, made-long, made_entered, room_test, bytes_fit, words-fit, reading-refuses, steps_refuse, log_refuses, room-refuses, replayed}
 use Rattle.replay.proofs.replay_with.Statement.{statement}

@@ -1,0 +1,201 @@
+-- `service_log::line_from` meets its contract: a walk of its MIR, by hand. A `Reader` that `new` returns is held in a local and passed to `moved`, and the one that `moved` returns, in another, to `next`. All that the proof knows of the three is that each meets its contract.
+-- The machine values that `new` and `moved` return are stored and passed on as they are. In a local of a body MIR erases the lifetime of the struct's type, so each is shown to have the type at `erased`: what the struct owns does not say the lifetime's name.
+-- What `next` says of the struct's log and place is said of the slice and the number passed, since the struct's are these.
+-- Assumes nothing.
+use mathlib.Core.Path.{◌≡◌, refl, subst, ◌∙◌}
+use Prim.Native.Nat.{ℕ, ◌<◌, ◌^◌}
+use mathlib.Core.List.{List, [], ◌∷◌}
+use lib.ListN.{length}
+use seplogic.Ra.Ura.{Ura}
+use mir.Syntax.{named, erased, w64}
+use mir.Val.{Val, vint}
+use base.Logic.{SProp, ent, sep, emp, via, fst∗, snd∗, ex_e, id⊢}
+use base.Fml.{Lft, Share, Fml, ftrue, flft}
+use prog.Memory.{Memory}
+use prog.Routine.{Routine}
+use prog.Wp.{Calls, Loops, WpFn, Tables}
+use types.Logic.{Logic, sem}
+use contract.Lifetimes.{Lfts}
+use contract.Monad.{Fun, fact}
+use contract.Running.{tables, tables_of}
+use types.Kit.{‵, raw, ◌⊛◌, ⋆, some, later, ◌$◌, ◌∵◌, !, qed, by, move, drop, use1, use2, split, join, pick, fsplit, fjoin, suffices, frame, await, done}
+use types.Run.{look, init, forget, stop, from, load, and_then, no_more, land, returns, enter, alloc1, alloc0, params1, pass1, pass0, free1, free0}
+use sound.WpLaws.{FmC, fm_of, WpFn-mono}
+use denote.RattleType.{RattleType, owns}
+use denote.Laws.{Is, shows}
+use denote.Plain.{uint_vals, uint_Tells, uint_Makes}
+use denote.Builtin.{u8, usize}
+use denote.Ref.{Bor, NamedLft}
+use denote.Signature.{plain, named_lft}
+use denote.Slice.{slice_val, ShrSlice, shr_slice_vals, shr_slice_Tells, shr_slice_Lawful, shr_slice_copy}
+use denote.Steps.{owned, peeks, heard, nothing}
+use denote.Enum.Laws as EL
+use denote.Struct.Laws as LL
+use denote.Triple.Statement.{Contract, Triple}
+use denote.Triple.Call.{calls_at}
+use denote.Triple.Entry.{Vals, on_entry}
+use denote.Triple.Spec.{Meets, triple_of}
+use denote.Triple.Table.{entered, cited}
+use denote.Triple.Walked.{says, Stays, stay_none, stay_none_slice, walk_of, Goes-none, Goes-none_slice, Walks, ends_at, walked, walk_Meets}
+use denote.Exit.{yes}
+use denote.Triple.Clauses.{ensured, lasts}
+use Rattle.service_log.specs.Cursor.{Handed}
+use Rattle.service_log.specs.declared.Reader.{Reader}
+use Rattle.service_log.specs.declared.Line.{Line}
+use Rattle.service_log.specs.contracts.Reader as T
+use Rattle.service_log.proofs.Reader.TheLaws as T'
+use Rattle.service_log.specs.contracts.Line as S
+use Rattle.service_log.proofs.Line.TheLaws as S'
+use Rattle.service_log.specs.contracts.new as new
+use Rattle.service_log.proofs.new.Symbol as new-def
+use Rattle.service_log.proofs.new.Symbol.{name as #log·new}
+use Rattle.service_log.proofs.new.Met as new-thm
+use Rattle.service_log.specs.contracts.moved as moved
+use Rattle.service_log.proofs.moved.Symbol as moved-def
+use Rattle.service_log.proofs.moved.Symbol.{name as #log·moved}
+use Rattle.service_log.proofs.moved.Met as moved-thm
+use Rattle.service_log.specs.contracts.next as next
+use Rattle.service_log.proofs.next.Symbol as next-def
+use Rattle.service_log.proofs.next.Symbol.{name as #log·next}
+use Rattle.service_log.proofs.next.Met as next-thm
+use Rattle.service_log.specs.contracts.line_from.Key.{name as #log·line-from}
+use Rattle.service_log.specs.contracts.line_from as line-from
+use Rattle.service_log.proofs.line_from.Statement as stated
+use Rattle.service_log.proofs.line_from.Code as code
+
+-- the struct's type, over the signature's lifetimes
+abbrev B : Lfts 1 → RattleType
+B κs = T.the_row (named_lft 1 0 tt κs)
+
+abbrev stayed : Stays (line-from.ended).signature.params (line-from.ended).kept
+stayed = (stay_none_slice (0 ∷ []) tt (plain (λ _. u8)) yes, (stay_none (λ _. usize) yes, tt))
+
+module _ {M : Type 1} {𝓤 : Ura M} (𝓛 : Logic 𝓤) (mem : Memory → SProp 𝓤) (run : Routine → Fun 𝓤) where
+  -- the contracts that the proof cites
+  abbrev New : Contract 𝓤
+  New = triple_of 𝓛 new.signature (new.spec 𝓛 mem run)
+
+  abbrev Moved : Contract 𝓤
+  Moved = triple_of 𝓛 moved.signature (moved.spec 𝓛 mem run)
+
+  abbrev Next : Contract 𝓤
+  Next = triple_of 𝓛 next.signature (next.spec 𝓛 mem run)
+
+module _ {M : Type 1} {𝓤 : Ura M} (𝓛 : Logic 𝓤) (mem : Memory → SProp 𝓤) (run : Routine → Fun 𝓤) (κ : Lft) (q : Share) (s : Bor (List ℕ)) (n : ℕ) (ok : n < 2 ^ 64) where
+  -- the machine value that s has
+  open 𝓛 use {H}
+
+  abbrev v : Val
+  v = slice_val s.ref_ptr (length s.now)
+
+  abbrev at : Vals line-from.signature (κ, tt)
+  at = (v ∷ [], (vint w64 n ∷ [], tt))
+
+  -- the struct's type as a local of a body has it
+  abbrev αᵉ : NamedLft
+  αᵉ = record { mir = erased; lft = κ }
+
+  abbrev Post : Val → SProp 𝓤
+  Post = (walk_of 𝓛 line-from.ended stayed (line-from.clauses 𝓛 mem run)).post (((κ, tt), (q, tt), tt, (s, (n, tt)), at), tt)
+
+  abbrev Own : Fml
+  Own = (ShrSlice (named 0) κ u8).own_val s (v ∷ [])
+
+  -- the call of `new`: what it is passed, what it asks, and what is known of its result
+  abbrev to-new : (New 𝓛 mem run).Ghost
+  to-new = (((κ, tt), (q, tt), tt, (s, tt), (v ∷ [], tt)), tt)
+
+  goes-new : ent 𝓤 (on_entry 𝓛 line-from.signature (κ, tt) (q, tt) (s, (n, tt)) at) (sep 𝓤 ((New 𝓛 mem run).pre to-new) (sem 𝓛 Own))
+  goes-new =
+      qed 𝓛 ((‵ (flft κ q) ⊛ ‵ ftrue) ∷ ‵ (owns (ShrSlice (named 0) κ u8 ∷ usize ∷ []) (s, (n, tt)) at) ∷ []) ∵
+      move ! (1 ∷ []) $ fsplit ! $ move ! (1 ∷ []) $ drop ! $ use1 𝓛 (‵ Own ⊛ ‵ Own) ((shr_slice_copy 𝓛 (named 0) κ u8).twice s (v ∷ [])) $ split ! $
+      nothing ! $ move ! (1 ∷ 0 ∷ []) $ fjoin ! $ move ! (2 ∷ 0 ∷ []) $ use2 𝓛 (raw ((New 𝓛 mem run).pre to-new)) (qed 𝓛 ((‵ (flft κ q) ⊛ ‵ ftrue) ∷ ‵ (owns (ShrSlice (named 0) κ u8 ∷ []) (s, tt) (v ∷ [], tt)) ∷ []) ∵ join ! $ frame ! $ done !) $ frame ! $ done !
+
+  new-said : (r : Reader) → ent 𝓤 (ensured 𝓛 new.ended (new.clauses 𝓛 mem run) (κ, tt) (s, tt) tt r) (fact 𝓤 ((r.log ≡ s) × (r.at ≡ 0)))
+  new-said r = ex_e 𝓤 _ (λ ws. snd∗ 𝓤 (sem 𝓛 (lasts new.ended (κ, tt) (s, tt) ws)) (fact 𝓤 ((r.log ≡ s) × (r.at ≡ 0))))
+
+  -- the call of `moved`, at the struct r with the machine value u, and the number
+  abbrev to-moved : Reader → Val → (Moved 𝓛 mem run).Ghost
+  to-moved r u = (((κ, tt), (q, tt), tt, (r, (n, tt)), (u ∷ [], (vint w64 n ∷ [], tt))), tt)
+
+  goes_moved : (r : Reader) (u : Val) → ent 𝓤 (⋆ 𝓛 (‵ ((B (κ, tt)).own r (u ∷ [])) ∷ (‵ (flft κ q) ⊛ ‵ ftrue) ∷ [])) ((Moved 𝓛 mem run).pre (to-moved r u))
+  goes_moved r u =
+      qed 𝓛 (‵ ((B (κ, tt)).own r (u ∷ [])) ∷ (‵ (flft κ q) ⊛ ‵ ftrue) ∷ []) ∵
+      nothing ! $ owned ! usize (Is usize) (uint_Makes 𝓛 w64) n _ (refl, ok) $ fjoin ! $ move ! (1 ∷ 0 ∷ []) $ fjoin ! $ move ! (1 ∷ 0 ∷ []) $ join ! $ frame ! $ done !
+
+  moved-said : (r x : Reader) → ent 𝓤 (ensured 𝓛 moved.ended (moved.clauses 𝓛 mem run) (κ, tt) (r, (n, tt)) tt x) (fact 𝓤 ((x.log ≡ r.log) × (x.at ≡ n)))
+  moved-said r x = ex_e 𝓤 _ (λ ws. snd∗ 𝓤 (sem 𝓛 (lasts moved.ended (κ, tt) (r, (n, tt)) ws)) (fact 𝓤 ((x.log ≡ r.log) × (x.at ≡ n))))
+
+  -- the call of `next`, at the struct x with the machine value u
+  abbrev to-next : Reader → Val → (Next 𝓛 mem run).Ghost
+  to-next x u = (((κ, tt), (q, tt), tt, (x, tt), (u ∷ [], tt)), tt)
+
+  goes-next : (x : Reader) (u : Val) → ent 𝓤 (⋆ 𝓛 (‵ ((B (κ, tt)).own x (u ∷ [])) ∷ (‵ (flft κ q) ⊛ ‵ ftrue) ∷ [])) ((Next 𝓛 mem run).pre (to-next x u))
+  goes-next x u = qed 𝓛 (‵ ((B (κ, tt)).own x (u ∷ [])) ∷ (‵ (flft κ q) ⊛ ‵ ftrue) ∷ []) ∵ nothing ! $ move ! (1 ∷ 0 ∷ []) $ fjoin ! $ move ! (1 ∷ 0 ∷ []) $ join ! $ frame ! $ done !
+
+  next-said : (x : Reader) (t : Line) → ent 𝓤 (ensured 𝓛 next.ended (next.clauses 𝓛 mem run) (κ, tt) (x, tt) tt t) (fact 𝓤 (Handed x.log.now x.at t))
+  next-said x t = ex_e 𝓤 _ (λ ws. snd∗ 𝓤 (sem 𝓛 (lasts next.ended (κ, tt) (x, tt) ws)) (fact 𝓤 (Handed x.log.now x.at t)))
+
+  -- what is said of a struct's log and place is said of the slice and the number, if they are the same
+  handed : (x : Reader) (t : Line) → x.log ≡ s → x.at ≡ n → Handed x.log.now x.at t → Handed s.now n t
+  handed x t same there h = subst (λ (y : Bor (List ℕ)). Handed y.now n t) same (subst (λ (m : ℕ). Handed x.log.now m t) there h)
+
+  exits : (t : Line) (u : Val) → Handed s.now n t → ent 𝓤 (⋆ 𝓛 (‵ ((S.the_row).own_val t (u ∷ [])) ∷ (‵ (flft κ q) ⊛ ‵ ftrue) ∷ ‵ Own ∷ [])) (Post u)
+  exits t u e =
+      qed 𝓛 (‵ ((S.the_row).own_val t (u ∷ [])) ∷ (‵ (flft κ q) ⊛ ‵ ftrue) ∷ ‵ Own ∷ []) ∵
+      suffices ! _ (ends_at 𝓛 line-from.ended stayed (line-from.clauses 𝓛 mem run) (((κ, tt), (q, tt), tt, (s, (n, tt)), at), tt) u t (tt, (tt, tt)) (tt, (tt, tt))) $ says ! e $
+      move ! (1 ∷ []) $ frame ! $ nothing ! $ owned ! usize (Is usize) (uint_Makes 𝓛 w64) n _ (refl, ok) $ fjoin ! $ move ! (2 ∷ 0 ∷ []) $ fjoin ! $ frame ! $ done !
+
+  module _ (C : Calls 𝓤 H) (Λ : Loops 𝓤 H) (fm : FmC 𝓤 H 𝓛.laws C) (known-new : Triple 𝓤 (C #log·new) (New 𝓛 mem run)) (known-moved : Triple 𝓤 (C #log·moved) (Moved 𝓛 mem run)) (known_next : Triple 𝓤 (C #log·next) (Next 𝓛 mem run)) where
+    walk : Is (ShrSlice (named 0) κ u8) s (v ∷ []) → ent 𝓤 (on_entry 𝓛 line-from.signature (κ, tt) (q, tt) (s, (n, tt)) at) (WpFn 𝓤 H C Λ code.function (v ∷ vint w64 n ∷ []) Post)
+    walk p =
+        qed 𝓛 (raw (on_entry 𝓛 line-from.signature (κ, tt) (q, tt) (s, (n, tt)) at) ∷ []) ∵ enter ! C Λ code.function (v ∷ vint w64 n ∷ []) _ $
+        alloc1 ! (λ l₀. alloc1 ! (λ l₁. alloc1 ! (λ l₂. alloc1 ! (λ l₃. alloc1 ! (λ l₄. alloc0 ! $ params1 ! $ pass1 ! (init ! 6 refl ((shr_slice_Lawful 𝓛 (named 0) κ u8).typed s (v ∷ []) p).0) $ pass1 ! (init ! 4 refl (tt, record { fits = ok })) $ pass0 ! $
+        move ! (10 ∷ []) $ use1 𝓛 (raw ((New 𝓛 mem run).pre to-new) ⊛ ‵ Own) goes-new $ split ! $
+        calls_at ! fm (New 𝓛 mem run) known-new to-new (and_then ! (load ! (from ! (stop !)) (look ! 8 refl)) (no_more !)) (λ u.
+        use1 𝓛 (later (some (λ (r : Reader). ((‵ (flft κ q) ⊛ ‵ ftrue) ⊛ ‵ ((B (κ, tt)).own r (u ∷ []))) ⊛ raw (ensured 𝓛 new.ended (new.clauses 𝓛 mem run) (κ, tt) (s, tt) tt r)))) (id⊢ 𝓤 _) $ await ! tt $ pick ! (λ r.
+        split ! $ move ! (1 ∷ []) $ use1 𝓛 (raw (fact 𝓤 ((r.log ≡ s) × (r.at ≡ 0)))) (new-said r) $ heard ! ((r.log ≡ s) × (r.at ≡ 0)) (λ e. split ! $ move ! (1 ∷ []) $
+        -- [what the struct owns; the token; what s owns; room for _4; …; room for _3; …; _2; …; _1; …; room for _0; …]
+        peeks ! (B (κ, tt)) (Is (B (κ, tt))) (shows 𝓛 (B (κ, tt))) r (u ∷ []) (λ is.
+        land ! (from ! (stop !)) (init ! 3 refl ((LL.lawful (T.the_type αᵉ) (T'.the_laws αᵉ) 𝓛).typed r _ is).0) $
+        use2 𝓛 (raw ((Moved 𝓛 mem run).pre (to-moved r u))) (goes_moved r u) $
+        calls_at ! fm (Moved 𝓛 mem run) known-moved (to-moved r u) (and_then ! (load ! (from ! (stop !)) (look ! 2 refl)) (and_then ! (load ! (from ! (stop !)) (look ! 6 refl)) (no_more !))) (λ u'.
+        use1 𝓛 (later (some (λ (x : Reader). ((‵ (flft κ q) ⊛ ‵ ftrue) ⊛ ‵ ((B (κ, tt)).own x (u' ∷ []))) ⊛ raw (ensured 𝓛 moved.ended (moved.clauses 𝓛 mem run) (κ, tt) (r, (n, tt)) tt x)))) (id⊢ 𝓤 _) $ await ! tt $ pick ! (λ x.
+        split ! $ move ! (1 ∷ []) $ use1 𝓛 (raw (fact 𝓤 ((x.log ≡ r.log) × (x.at ≡ n)))) (moved-said r x) $ heard ! ((x.log ≡ r.log) × (x.at ≡ n)) (λ e'. split ! $ move ! (1 ∷ []) $
+        -- [what the new struct owns; the token; what s owns; _4; …; room for _3; …; _2; …; _1; …; room for _0; …]
+        peeks ! (B (κ, tt)) (Is (B (κ, tt))) (shows 𝓛 (B (κ, tt))) x (u' ∷ []) (λ is'.
+        land ! (from ! (stop !)) (init ! 5 refl ((LL.lawful (T.the_type αᵉ) (T'.the_laws αᵉ) 𝓛).typed x _ is').0) $
+        use2 𝓛 (raw ((Next 𝓛 mem run).pre (to-next x u'))) (goes-next x u') $
+        calls_at ! fm (Next 𝓛 mem run) known_next (to-next x u') (and_then ! (load ! (from ! (stop !)) (look ! 4 refl)) (no_more !)) (λ u''.
+        use1 𝓛 (later (some (λ (t : Line). ((‵ (flft κ q) ⊛ ‵ ftrue) ⊛ ‵ ((S.the_row).own_val t (u'' ∷ []))) ⊛ raw (ensured 𝓛 next.ended (next.clauses 𝓛 mem run) (κ, tt) (x, tt) tt t)))) (id⊢ 𝓤 _) $ await ! tt $ pick ! (λ t.
+        split ! $ move ! (1 ∷ []) $ use1 𝓛 (raw (fact 𝓤 (Handed x.log.now x.at t))) (next-said x t) $ heard ! (Handed x.log.now x.at t) (λ h. split ! $ move ! (1 ∷ []) $
+        -- [the result; the token; what s owns; _4; …; _3; …; _2; …; _1; …; room for _0; …]
+        peeks ! S.the_row (Is S.the_row) (shows 𝓛 S.the_row) t (u'' ∷ []) (λ is''.
+        land ! (from ! (stop !)) (init ! 11 refl ((EL.lawful S.the_type S'.the_laws 𝓛 tt).typed t _ is'').0) $
+        returns ! (look ! 11 refl) $ forget ! 3 refl $ forget ! 5 refl $ forget ! 7 refl $ forget ! 9 refl $ forget ! 11 refl $
+        move ! (11 ∷ 12 ∷ []) $ free1 ! $ move ! (9 ∷ 10 ∷ []) $ free1 ! $ move ! (7 ∷ 8 ∷ []) $ free1 ! $ move ! (5 ∷ 6 ∷ []) $ free1 ! $ move ! (3 ∷ 4 ∷ []) $ free1 ! $ free0 ! $
+        by ! (exits t u'' (handed x t (e'.0 ∙ e.0) e'.1 h)))))))))))))))))))
+
+module _ {M : Type 1} {𝓤 : Ura M} (𝓛 : Logic 𝓤) (mem : Memory → SProp 𝓤) (run : Routine → Fun 𝓤) where
+  open 𝓛 use {H}
+
+  line-from_walks : (C : Calls 𝓤 H) (Λ : Loops 𝓤 H) → FmC 𝓤 H 𝓛.laws C → Triple 𝓤 (C #log·new) (New 𝓛 mem run) → Triple 𝓤 (C #log·moved) (Moved 𝓛 mem run) → Triple 𝓤 (C #log·next) (Next 𝓛 mem run)
+      → Walks 𝓛 line-from.ended stayed (WpFn 𝓤 H C Λ code.function) (line-from.clauses 𝓛 mem run)
+  line-from_walks C Λ fm known-new known-moved known_next = walked 𝓛 line-from.ended stayed (line-from.clauses 𝓛 mem run) (WpFn 𝓤 H C Λ code.function) (λ κs. (shr_slice_vals, (uint_vals w64, tt))) (λ κs. (shr_slice_Tells (named 0) κs.0 u8, (uint_Tells w64, tt)))
+      (λ κs qs bounds a g are. via 𝓤 _ (fst∗ 𝓤 _ (emp 𝓤)) (walk 𝓛 mem run κs.0 qs.0 a.0 a.1.0 are.1.0.1 C Λ fm known-new known-moved known_next are.0))
+
+line-from_meets : {M : Type 1} {𝓤 : Ura M} (𝓛 : Logic 𝓤) (mem : Memory → SProp 𝓤) (run : Routine → Fun 𝓤) (𝓣 : Tables 𝓤 𝓛.H)
+    → Triple 𝓤 (𝓣.C #log·new) (New 𝓛 mem run) → Triple 𝓤 (𝓣.C #log·moved) (Moved 𝓛 mem run) → Triple 𝓤 (𝓣.C #log·next) (Next 𝓛 mem run)
+    → Meets 𝓛 line-from.signature (WpFn 𝓤 𝓛.H 𝓣.C 𝓣.Λ code.function) (line-from.spec 𝓛 mem run)
+line-from_meets {𝓤 = 𝓤} 𝓛 mem run 𝓣 known-new known-moved known_next = walk_Meets 𝓛 line-from.ended stayed (Goes-none_slice 𝓛 1 (0 ∷ []) tt (plain (λ _. u8)) yes, (Goes-none 𝓛 1 (λ _. usize) yes (λ κs x f. refl), tt)) (line-from.clauses 𝓛 mem run) (WpFn 𝓤 𝓛.H 𝓣.C 𝓣.Λ code.function) (WpFn-mono 𝓤 𝓛.H 𝓛.laws 𝓣 code.function)
+    (line-from_walks 𝓛 mem run 𝓣.C 𝓣.Λ (fm_of 𝓤 𝓛.H 𝓛.laws 𝓣) known-new known-moved known_next)
+
+pub line_from_spec : {M : Type 1} → stated.statement M
+unfolding code.routine tables_of
+line_from_spec 𝓤 𝓛 𝓜 𝓡 =
+    entered 𝓤 𝓛.H (triple_of 𝓛 line-from.signature (line-from.spec 𝓛 𝓜.mem 𝓡.run))
+    (tables 𝓤 𝓛.H 𝓜 𝓡 code.env).C (tables 𝓤 𝓛.H 𝓜 𝓡 code.env).Λ #log·line-from code.function (code.unfolded 𝓤 𝓛.H 𝓜 𝓡)
+    (line-from_meets 𝓛 𝓜.mem 𝓡.run (tables_of 𝓤 𝓛.H 𝓜 (tables 𝓤 𝓛.H 𝓜 𝓡 code.env))
+    (cited 𝓤 𝓛.H (New 𝓛 𝓜.mem 𝓡.run) 𝓜 𝓡 code.env #log·new new-def.routine code.calls-service_log::new (new-thm.met 𝓤 𝓛 𝓜 𝓡))
+    (cited 𝓤 𝓛.H (Moved 𝓛 𝓜.mem 𝓡.run) 𝓜 𝓡 code.env #log·moved moved-def.routine code.calls-service_log::moved (moved-thm.met 𝓤 𝓛 𝓜 𝓡))
+    (cited 𝓤 𝓛.H (Next 𝓛 𝓜.mem 𝓡.run) 𝓜 𝓡 code.env #log·next next-def.routine code.calls-service_log::next (next-thm.met 𝓤 𝓛 𝓜 𝓡)))
