@@ -1,0 +1,6 @@
+-- The record's second byte; the record lies inside the table.
+use borrow.Author.Rules.{rules}
+use Rattle.table.proofs.to.Goals as goal
+
+pub returns : goal.returns
+returns c = (cc, search rules)
