@@ -1,0 +1,24 @@
+-- The loop keeps that the records of the rules still left, put from here on, come to all records from n on. Each takes at most 1,024 bytes, and a table has at most 64.
+use mathlib.Core.Path.{◌≡◌, refl}
+use Prim.Native.Nat.{◌+◌, ◌*◌, ◌-◌, ◌≤◌}
+use native.Mathlib.Omega.{arith}
+use borrow.Author.Rules.{rules}
+use lib.ListN.{length}
+use Rattle.table.specs.Table.{rules_of}
+use Rattle.table.proofs.RecordLaws.{record_long}
+use Rattle.ink.proofs.InkLaws.{RestPut, rest_all}
+use Rattle.editions.specs.Moved.{rules_from}
+use Rattle.editions.proofs.MovedLaws.{rules-first, rules-turn, rules-end}
+use Rattle.editions.proofs.put_rules.Goals as goal
+
+pub loop-r-init : goal.loop-r-init
+loop-r-init c = (omega arith, omega arith, refl, rest_all (search rules-first))
+
+pub put_rule-m-requires : goal.put_rule-m-requires
+put_rule-m-requires c = (search rules, search record_long, search rules)
+
+pub loop-r-preserved : goal.loop-r-preserved
+loop-r-preserved c = (omega arith, omega arith, search rules, rules-turn _ _ c.loop-r.invariant.3 c.loop-r-test.true c.rules-rules.ensures.0 c.types_byte-own.ensures.0 c.rule-rule.ensures.0 c.put_rule-m.ensures.0)
+
+pub returns : goal.returns
+returns c = (search rules-end, omega arith)
