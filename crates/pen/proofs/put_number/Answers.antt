@@ -1,0 +1,8 @@
+-- What joins it and the number itself, one put after the other.
+use borrow.Author.Rules.{rules}
+use native.Mathlib.Omega.{arith}
+use Rattle.ink.proofs.InkLaws.{put_then}
+use Rattle.pen.proofs.put_number.Goals as goal
+
+pub returns : goal.returns
+returns c = (search put_then, omega arith)

@@ -1,0 +1,21 @@
+-- The loop keeps that putting the numbers still left comes to putting all of them, and the place in its group of the next. Each takes at most 6 bytes:
+-- two to join, four for the number.
+use mathlib.Core.Path.{◌≡◌, refl}
+use Prim.Native.Nat.{◌+◌, ◌*◌, ◌%◌, ◌≤◌}
+use native.Mathlib.Omega.{arith}
+use borrow.Author.Rules.{rules}
+use lib.ListN.{length}
+use Rattle.fault.specs.Bytes.{byte_at}
+use Rattle.dot.specs.Text.{numbers_text}
+use Rattle.dot.proofs.ShapeLaws.{place-first, place-next, place-below}
+use Rattle.pen.specs.Pen.{alone}
+use Rattle.ink.proofs.InkLaws.{RestPut, rest_all}
+use Rattle.pen.proofs.TextLaws.{numbers-first}
+use Rattle.pen.proofs.PartLaws.{numbers-turn, put-numbers-end}
+use Rattle.pen.proofs.put_numbers.Given as goal
+
+abbrev pub invariant-loop-left : goal.invariant-loop-left
+invariant-loop-left l = (l.left + l.j ≡ l.g) × (l.i ≡ l.j % l.shape.group) × (l.m ≤ l.n + 6 * l.j) × (length l.out ≡ length l.initial.out) × RestPut l.initial.out l.n (alone (numbers_text l.shape l.g 0 l.table l.at)) l.out l.m (alone (numbers_text l.shape l.left l.j l.table (l.at + l.j)))
+
+abbrev pub decreases-loop-left : goal.decreases-loop-left
+decreases-loop-left l = l.left

@@ -1,0 +1,20 @@
+-- Too few bytes, or another word, are no piece of a line; where the word stands, the number after it counts.
+use native.Mathlib.Omega.{arith}
+use borrow.Author.Rules.{rules}
+use Rattle.service_log.proofs.PieceLaws.{numbered-short, numbered-none, numbered-some}
+use Rattle.service_log.proofs.numbered.Goals as goal
+
+pub returns-then-log-at-lt7 : goal.returns-then-log-at-lt7
+returns-then-log-at-lt7 c = numbered-short _ c.requires.1 (omega (arith, c.if-log-at-lt7.true)) c.stuck.ensures
+
+pub begins-requires : goal.begins-requires
+begins-requires c = (omega (arith, c.if-log-at-lt7.false, c.requires.0), c.requires.1)
+
+pub number-requires : goal.number-requires
+number-requires c = omega (arith, c.if-log-at-lt7.false, c.requires.0)
+
+pub returns-then-begins : goal.returns-then-begins
+returns-then-begins c = numbered-some c.requires.1 c.begins.ensures c.if-begins.true c.number.ensures
+
+pub returns : goal.returns
+returns c = search numbered-none

@@ -1,0 +1,16 @@
+-- After i turns the first i records have their lowest sources, and the words are those after the first i of the new steps.
+use mathlib.Core.Path.{◌≡◌, refl, sym, ap, ◌∙◌}
+use Prim.Native.Nat.{◌+◌, ◌*◌, ◌/◌, ◌-◌, ◌≤◌}
+use native.Mathlib.Omega.{arith}
+use borrow.Author.Rules.{rules}
+use lib.ListN.{length, length-set}
+use Rattle.words.specs.Facts.{at_rest, Holds}
+use Rattle.words.proofs.KeepLaws.{holds_more}
+use Rattle.translate.proofs.LoopLaws.{Alongs, alongs_none, alongs_acceptable, alongs_more, alongs_all}
+use Rattle.translate.proofs.write_along.Given as goal
+
+abbrev pub invariant-loop-i : goal.invariant-loop-i
+invariant-loop-i l = (l.i ≤ l.total) × (Holds l.s (256 + 2 * l.i) l.w) × (length l.steps ≡ length l.initial.steps) × Alongs l.s l.ends l.initial.w l.total l.initial.steps l.i l.w l.steps
+
+abbrev pub decreases-loop-i : goal.decreases-loop-i
+decreases-loop-i l = l.total - l.i
