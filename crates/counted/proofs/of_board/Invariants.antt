@@ -1,0 +1,17 @@
+-- The counts of the types below m are summed; each is small.
+use mathlib.Core.Path.{◌≡◌}
+use Prim.Native.Nat.{◌*◌, ◌-◌, ◌≤◌}
+use native.Mathlib.Omega.{arith}
+use borrow.Author.Rules.{rules}
+use Rattle.words.specs.Words.{count_in}
+use Rattle.words.specs.Facts.{at_end, in_step}
+use Rattle.words.proofs.KeepLaws.{holds_more}
+use Rattle.receipts.specs.Receipts.{sum_below}
+use Rattle.counted.proofs.SumLaws.{sum-begins, sum_goes, sum-ends}
+use Rattle.counted.proofs.of_board.Given as goal
+
+abbrev pub invariant-loop-m : goal.invariant-loop-m
+invariant-loop-m l = (l.m ≤ l.types) × (l.x ≡ sum_below l.m (λ i. count_in l.s l.w l.p i)) × (l.x ≤ l.m * 2000000)
+
+abbrev pub decreases-loop-m : goal.decreases-loop-m
+decreases-loop-m l = l.types - l.m
