@@ -1,4 +1,4 @@
-// The library that others link: each exported function is a thin call, its answer packed as macaroosh.h says.
+// The calls that others link: each is a thin call, its answer packed as macaroosh.h says. `capi_c` exports them to C under their names.
 #![tactic(auto)]
 
 ghost use Rattle.std.specs.Prelude.{◌≡◌, ◌≤◌, length};
@@ -21,8 +21,7 @@ use first_step::First;
 use search::Searched;
 
 // Runs a bundle's schedule in the lent words: refusal, place, steps accepted.
-#[unsafe(no_mangle)]
-pub extern "C" fn macaroosh_run<'a>(bundle: &'a [u8], standing: &'a [u8], words: &mut [u64]) -> u64
+pub fn macaroosh_run<'a>(bundle: &'a [u8], standing: &'a [u8], words: &mut [u64]) -> u64
     ensures value { result ≡ packed (run_answer bundle.now standing.now (length words.old)) }
     ensures words_after { words.new ≡ run_words bundle.now standing.now words.old }
 {
@@ -30,8 +29,7 @@ pub extern "C" fn macaroosh_run<'a>(bundle: &'a [u8], standing: &'a [u8], words:
 }
 
 // The same, with the receipts and the sends of its accepted steps: refusal, place, receipts + 65,536 · sends.
-#[unsafe(no_mangle)]
-pub extern "C" fn macaroosh_receipts<'a>(
+pub fn macaroosh_receipts<'a>(
     bundle: &'a [u8],
     standing: &'a [u8],
     words: &mut [u64],
@@ -55,8 +53,7 @@ fn receipts_of(a: Counted) -> Answer
 }
 
 // Writes a bundle's translation to the form that its own usually goes to into the lent bytes: refusal, place, bytes written.
-#[unsafe(no_mangle)]
-pub extern "C" fn macaroosh_translate<'a>(
+pub fn macaroosh_translate<'a>(
     bundle: &'a [u8],
     standing: &'a [u8],
     out: &mut [u8],
@@ -68,8 +65,7 @@ pub extern "C" fn macaroosh_translate<'a>(
 }
 
 // The same to the form that is asked for.
-#[unsafe(no_mangle)]
-pub extern "C" fn macaroosh_translate_to<'a>(
+pub fn macaroosh_translate_to<'a>(
     bundle: &'a [u8],
     standing: &'a [u8],
     form: u64,
@@ -82,8 +78,7 @@ pub extern "C" fn macaroosh_translate_to<'a>(
 }
 
 // Writes a table's drawing into the lent bytes: refusal, place, bytes written.
-#[unsafe(no_mangle)]
-pub extern "C" fn macaroosh_draw(table: &[u8], out: &mut [u8]) -> u64
+pub fn macaroosh_draw(table: &[u8], out: &mut [u8]) -> u64
     ensures value { result ≡ packed (draw_answer table.now (length out.old)) }
     ensures out_after { out.new ≡ draw_bytes table.now out.old }
 {
@@ -91,8 +86,7 @@ pub extern "C" fn macaroosh_draw(table: &[u8], out: &mut [u8]) -> u64
 }
 
 // Writes the table that a text draws into the lent bytes: refusal, place, bytes written.
-#[unsafe(no_mangle)]
-pub extern "C" fn macaroosh_undraw(text: &[u8], out: &mut [u8]) -> u64
+pub fn macaroosh_undraw(text: &[u8], out: &mut [u8]) -> u64
     ensures value { result ≡ packed (capped (undraw_answer text.now (length out.old))) }
     ensures out_after { out.new ≡ undraw_bytes text.now out.old }
 {
@@ -100,8 +94,7 @@ pub extern "C" fn macaroosh_undraw(text: &[u8], out: &mut [u8]) -> u64
 }
 
 // Writes a table in the second edition into the lent bytes: refusal, place, bytes written.
-#[unsafe(no_mangle)]
-pub extern "C" fn macaroosh_to_second(table: &[u8], out: &mut [u8]) -> u64
+pub fn macaroosh_to_second(table: &[u8], out: &mut [u8]) -> u64
     ensures value { result ≡ packed (to_second_answer table.now (length out.old)) }
     ensures out_after { out.new ≡ to_second_bytes table.now out.old }
 {
@@ -109,8 +102,7 @@ pub extern "C" fn macaroosh_to_second(table: &[u8], out: &mut [u8]) -> u64
 }
 
 // Writes a table in the first edition into the lent bytes: refusal, place, bytes written.
-#[unsafe(no_mangle)]
-pub extern "C" fn macaroosh_to_first(table: &[u8], out: &mut [u8]) -> u64
+pub fn macaroosh_to_first(table: &[u8], out: &mut [u8]) -> u64
     ensures value { result ≡ packed (to_first_answer table.now (length out.old)) }
     ensures out_after { out.new ≡ to_first_bytes table.now out.old }
 {
@@ -118,16 +110,14 @@ pub extern "C" fn macaroosh_to_first(table: &[u8], out: &mut [u8]) -> u64
 }
 
 // The first possible step after a bundle's schedule.
-#[unsafe(no_mangle)]
-pub extern "C" fn macaroosh_first_step<'a>(bundle: &'a [u8], standing: &'a [u8]) -> u64
+pub fn macaroosh_first_step<'a>(bundle: &'a [u8], standing: &'a [u8]) -> u64
     ensures { result ≡ packed_first (first_answer bundle.now standing.now) }
 {
     pack_first(first_step::first_step(bundle, standing))
 }
 
 // Writes the bundle that a log makes of one without steps, and runs it in the lent words: refusal, place, steps accepted.
-#[unsafe(no_mangle)]
-pub extern "C" fn macaroosh_replay<'a>(
+pub fn macaroosh_replay<'a>(
     bundle: &'a [u8],
     standing: &'a [u8],
     log: &[u8],
@@ -143,8 +133,7 @@ pub extern "C" fn macaroosh_replay<'a>(
 
 // Searches for a schedule of at most `depth` steps more that puts a board in an accepting state: refusal, place, outcome. The number tried
 // is stored with a refusal too, as 0.
-#[unsafe(no_mangle)]
-pub extern "C" fn macaroosh_search<'a>(
+pub fn macaroosh_search<'a>(
     bundle: &'a [u8],
     standing: &'a [u8],
     depth: u64,
@@ -162,8 +151,7 @@ pub extern "C" fn macaroosh_search<'a>(
 }
 
 // Checks a list of configurations for a bundle without steps: refusal, place, number of configurations.
-#[unsafe(no_mangle)]
-pub extern "C" fn macaroosh_check_list<'a>(
+pub fn macaroosh_check_list<'a>(
     bundle: &'a [u8],
     standing: &'a [u8],
     list: &[u64],
