@@ -15,8 +15,15 @@ import sys
 TOKEN = re.compile(r"[^\s(){}\[\];,.«»\"`]+")
 NAME = re.compile(r"[A-Za-z][^\s(){}\[\];,.«»\"`:]*$")
 MADE = ("invariant-", "decreases-", "cast-result")
-# lemmas and a field that stand beside a definition which takes their name
-ASIDE = {n: n + "_lem" for n in ("after_run", "goes_on", "met_at", "no_digit", "one_more")} | {"no_other": "no_other_form"}
+# lemmas and a field that stand beside a definition which takes their name, and where
+ASIDE = {
+    "after_run": ("after_run_lem", "crates/claims/"),
+    "goes_on": ("goes_on_lem", "crates/decimal/", "crates/dot/proofs/NumberLaws.antt"),
+    "met_at": ("met_at_lem", "crates/rules/", "crates/claims/"),
+    "no_digit": ("no_digit_lem", "crates/"),
+    "one_more": ("one_more_lem", "crates/receipts/", "crates/stops/"),
+    "no_other": ("no_other_form", "crates/claims/"),
+}
 # words of the library that lemmas are named after
 LIBRARY = set(
     "length take drop map append reverse set get get_or suc zero one two add sub mul div mod pow min max eq ne eqb ltb leb lt le and or not true false "
@@ -82,6 +89,8 @@ def main():
             if of_block:
                 inner.add(name)
     seen = collections.Counter()
+    bare = {path: re.sub(r"(?m)^\s*--.*$|^use [^\s{]*", "", text) for path, text in texts.items()}
+    tokens = {path: set(TOKEN.findall(text)) for path, text in bare.items()}
     foreign = set()
     for text in texts.values():
         for line in text.split("\n"):
@@ -128,33 +137,33 @@ def main():
                 del new[name]
             continue
         olds.sort(key=lambda n: ("-" in n, n not in spec, n))
-        for name in olds[1 if to not in functions or "-" not in olds[0] else 0 :]:
+        for name in olds[0 if to in functions and "-" in olds[0] else 1 :]:
+            # a field or a theorem of specs/ that no file has beside the first
+            if name in spec and not any(name in words and (olds[0] in words and name != olds[0] or to in words) for words in tokens.values()):
+                continue
             print("%s has a name of its own, so %s is %s_lem" % (to, name, to))
             new[name] = to + "_lem"
             if new[name] in seen or new[name] in takers:
                 sys.exit("taken: " + new[name])
 
-    for name, to in ASIDE.items():
-        print("%s makes room for a definition: %s" % (name, to))
-        new[name] = to
-
     for token in sorted(seen):
         if re.match("◌[a-z][A-Za-z]*◌$", token) and snake(token[1:-1]) != token[1:-1]:
             new[token] = "◌" + snake(token[1:-1]) + "◌"
 
-    def code(text):
-        return TOKEN.sub(lambda m: new.get(m.group(), m.group()), text)
+    def code(text, path=""):
+        aside = {name: at[0] for name, at in ASIDE.items() if path.startswith(at[1:])}
+        return TOKEN.sub(lambda m: aside.get(m.group(), new.get(m.group(), m.group())), text)
 
-    def comment(text):
-        text = re.sub(r"`[^`]*`", lambda m: code(m.group()), text)
+    def comment(text, path):
+        text = re.sub(r"`[^`]*`", lambda m: code(m.group(), path), text)
         return TOKEN.sub(lambda m: new[m.group()] if is_camel(m.group()) and m.group() in new else m.group(), text)
 
-    def lines(text, mark):
+    def lines(text, mark, path):
         out = []
         for line in text.split("\n"):
             at = re.search(r"(^|\s)" + mark + r"(\s|$)", line)
             at = at.start() if at else len(line)
-            out.append(code(line[:at]) + comment(line[at:]))
+            out.append(code(line[:at], path) + comment(line[at:], path))
         return "\n".join(out)
 
     changed = 0
@@ -167,13 +176,13 @@ def main():
                 f.write(text)
 
     for path, text in texts.items():
-        write(path, text, lines(text, "--"))
+        write(path, text, lines(text, "--", path))
     for path in sources("crates/*/src/**/*.rt"):
         text = read(path)
-        write(path, text, lines(text, "//"))
+        write(path, text, lines(text, "//", path))
     for path in sources("crates/*/must-fail/*.edit"):
         text = read(path)
-        write(path, text, lines(text, "#"))
+        write(path, text, lines(text, "#", path))
     for path in sources("README.md", "docs/*.md"):
         text = read(path)
         write(path, text, re.sub(r"`[^`\n]*`", lambda m: code(m.group()), text))

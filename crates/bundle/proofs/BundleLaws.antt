@@ -74,7 +74,7 @@ admitted k b h =
     let q = or-none (outside 1 most_boards (n_of b) || n_of b at_most k * t_of b) _ p.0 in
     let r = or-none (outside 1 most_boards (n_of b)) _ q.0 in
     let n = inside 1 most_boards (n_of b) r.0 in
-    record { some_board_lem = n.0; few_boards = n.1; enough = leb-false _ _ r.1; faulty = ltb-false _ _ q.1; form = ltb-false most_form _ p.1 }
+    record { some_board = n.0; few_boards = n.1; enough = leb-false _ _ r.1; faulty = ltb-false _ _ q.1; form = ltb-false most_form _ p.1 }
 
 pub parted : {y : Bool} (b : List ℕ) → Trailed b → y ≡ steps_off b → y ≡ false → Parted b
 unfolding steps_off front_length starts_of steps_of

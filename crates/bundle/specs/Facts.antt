@@ -13,7 +13,7 @@ pub record Trailed (b : List ℕ) : Type 0 where
 
 -- its numbers (refusal 12)
 pub record Admitted (k : ℕ) (b : List ℕ) : Type 0 where
-  pub some_board_lem : 1 ≤ n_of b
+  pub some_board : 1 ≤ n_of b
   pub few_boards : n_of b ≤ most_boards
   pub enough : k * t_of b < n_of b
   pub faulty : f_of b ≤ t_of b

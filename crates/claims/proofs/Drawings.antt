@@ -253,7 +253,7 @@ begins-shorter p i j h b =
     (w ++ b.0, subst Drawing (ap (λ (v : List ℕ). v ++ b.0) (sym e) ∙ append_assoc (take i p) w b.0) b.1)
 
 not_sooner : (t : List ℕ) (p q : ℕ) → Exact t p → Exact t q → p < q → ⊥
-not_sooner t p q x y h = x.no_further (omega (arith, y.within)) (begins-shorter t (suc p) q h y.goes_on_lem)
+not_sooner t p q x y h = x.no_further (omega (arith, y.within)) (begins-shorter t (suc p) q h y.goes_on)
 
 only_place : (t : List ℕ) (p q : ℕ) → Exact t p → Exact t q → p ≡ q
 only_place t p q x y = same_number (not_sooner t p q x y) (not_sooner t q p y x)
@@ -271,7 +271,7 @@ module _ (p : List ℕ) (n : Begins p → ⊥) where
     where
       too_far : (f : ℕ) → Exact (p ++ q) f → (f < length p → ⊥) → ⊥
       too_far f x y =
-          let b = x.goes_on_lem in
+          let b = x.goes_on in
           let m : f ≡ length p + (f - length p) = omega arith in
           let e : take f (p ++ q) ≡ p ++ take (f - length p) q = ap (λ (i : ℕ). take i (p ++ q)) m ∙ take-append-add p q (f - length p) in
           n (take (f - length p) q ++ b.0, subst Drawing (ap (λ (v : List ℕ). v ++ b.0) e ∙ append_assoc p (take (f - length p) q) b.0) b.1)
@@ -292,7 +292,7 @@ module _ (p : List ℕ) (n : Begins p → ⊥) where
       let l : a.place < length (p ++ q) = omega (arith, a.inside, length-append p q) in
       let t : take b.place (p ++ u) ≡ take b.place p = take-append-le b.place p u (omega (arith, b.inside)) in
       let s : take (suc a.place) (p ++ q) ≡ take (suc a.place) p = take-append-le (suc a.place) p q a.inside in
-      x.no_further l (subst⁻¹ Begins s (begins-shorter p (suc a.place) b.place h (subst Begins t y.goes_on_lem)))
+      x.no_further l (subst⁻¹ Begins s (begins-shorter p (suc a.place) b.place h (subst Begins t y.goes_on)))
 
   alike_after : (q u : List ℕ) → SameAnswer (p ++ q) (p ++ u)
   alike_after q u =

@@ -200,8 +200,8 @@ keeps v w = record { kept = λ out n. (given-kept 30 v w out n).0; none = λ len
 pub q8 : Q8
 unfolding to_second_answer to_second_bytes to_first_answer to_first_bytes
 q8 = record {
-  to_second_lem = λ s T h. up s T (types_byte s + second) (up-types s refl refl (lt-leb second (types_byte s) h)) (λ r m _ _. first_one s r m h) refl h;
-  to_first_lem = λ s T h one.
+  to_second = λ s T h. up s T (types_byte s + second) (up-types s refl refl (lt-leb second (types_byte s) h)) (λ r m _ _. first_one s r m h) refl h;
+  to_first = λ s T h one.
       let Z = (well_formed s T.clean).sized in
       down s T (types_byte s - second) (down-types s Z refl refl (ap not (le-leb second (types_byte s) h))) one refl h (omega (arith, Z.few_types, types_of_second (types_byte s) h));
   second_keeps = λ s. keeps (to_second_fault s) (moved_to (types_byte s + second) s);

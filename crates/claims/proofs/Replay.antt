@@ -343,7 +343,7 @@ replay-holds = record {
   lines = exact;
   reading = λ b standing log bytes words n. answer-refused b standing log bytes words _ (fault-reading b standing log bytes words n) n;
   has_steps = λ b standing log bytes words r h. answer-refused b standing log bytes words (refused 52) (fault-steps b standing log bytes words r h) (λ z. omega (arith, z));
-  wrong_line_lem = λ b standing log bytes words p r h w. by_verdict b standing log bytes words 50 p r h (exact.fifty_back log p w) (omega arith);
+  wrong_line = λ b standing log bytes words p r h w. by_verdict b standing log bytes words 50 p r h (exact.fifty_back log p w) (omega arith);
   too_long = λ b standing log bytes words p r h w. by_verdict b standing log bytes words 51 p r h (exact.fifty_one_back log p w) (omega arith);
   fifty = λ b standing log bytes words h. let p = by_log b standing log bytes words 50 (omega arith) (omega arith) h in exact.fifty log _ (same-verdict p.0 (sym p.1));
   fifty_one = λ b standing log bytes words h. let p = by_log b standing log bytes words 51 (omega arith) (omega arith) h in exact.fifty_one log _ (same-verdict p.0 (sym p.1));

@@ -214,6 +214,8 @@ module _ (d : Design) where
 
   pub none_before : (k : ℕ) (w : List ℕ) (ss ts : List Step) → First d k w ss → Reaches 1 d w ss → ((i : ℕ) → i < length ss → Reaches 1 d w (take i ss) → ⊥)
       → length ts ≤ k → NoWaits d ts → NoStops ts → Reaches 1 d w ts → Before ts ss → ⊥
+  none_before k w [] ts F R short l n a T x8 = elim x8 [ ]
+  none_before zero w (s ∷ ss) (t ∷ ts) F R short l n a T _ = elim F [ ]
   none_before k w (s ∷ ss) [] F R short l n a T shorter = short 0 (omega arith) T
   none_before (suc k) w (s ∷ ss) (t ∷ ts) (step before rest e f F) R short l n a T (earlier b) =
       let z = first-accepted d w t ts T in

@@ -46,10 +46,10 @@ pub record Keeps (answer : ℕ → Answer) (bytes : List ℕ → List ℕ) : Typ
 
 pub record Q8 : Type 0 where
   -- a table of the first edition goes to the second, and comes back
-  pub to_second_lem : (s : List ℕ) → Table s → types_byte s < second →
+  pub to_second : (s : List ℕ) → Table s → types_byte s < second →
       Moves (to_second_answer s) (to_second_bytes s) (to_first_answer (moved_to (types_byte s + second) s)) (to_first_bytes (moved_to (types_byte s + second) s)) s (moved_to (types_byte s + second) s)
   -- one of the second edition where every e is 1 goes to the first, and comes back
-  pub to_first_lem : (s : List ℕ) → Table s → second ≤ types_byte s → ((r m : ℕ) → r < rules_of s → m < types_of s → (weights_for s r m).e ≡ 1) →
+  pub to_first : (s : List ℕ) → Table s → second ≤ types_byte s → ((r m : ℕ) → r < rules_of s → m < types_of s → (weights_for s r m).e ≡ 1) →
       Moves (to_first_answer s) (to_first_bytes s) (to_second_answer (moved_to (types_byte s - second) s)) (to_second_bytes (moved_to (types_byte s - second) s)) s (moved_to (types_byte s - second) s)
   -- refusals
   pub second_keeps : (s : List ℕ) → Keeps (to_second_answer s) (to_second_bytes s)

@@ -72,7 +72,7 @@ pub record Replay : Type 0 where
   -- what reading refuses comes first; then 52; then 50 or 51, each exactly there
   pub reading : (b standing log : List ℕ) (bytes words : ℕ) → ((read_fault b standing).number ≡ 0 → ⊥) → replay_answer b standing log bytes words ≡ refusal_at (read_fault b standing).number (read_fault b standing).place
   pub has_steps : (b standing log : List ℕ) (bytes words : ℕ) → (read_fault b standing).number ≡ 0 → not_empty b ≡ true → replay_answer b standing log bytes words ≡ refusal_at 52 0
-  pub wrong_line_lem : (b standing log : List ℕ) (bytes words p : ℕ) → (read_fault b standing).number ≡ 0 → not_empty b ≡ false → Wrong log p → replay_answer b standing log bytes words ≡ refusal_at 50 p
+  pub wrong_line : (b standing log : List ℕ) (bytes words p : ℕ) → (read_fault b standing).number ≡ 0 → not_empty b ≡ false → Wrong log p → replay_answer b standing log bytes words ≡ refusal_at 50 p
   pub too_long : (b standing log : List ℕ) (bytes words p : ℕ) → (read_fault b standing).number ≡ 0 → not_empty b ≡ false → TooLong log p → replay_answer b standing log bytes words ≡ refusal_at 51 p
   pub fifty : (b standing log : List ℕ) (bytes words : ℕ) → (replay_answer b standing log bytes words).refusal ≡ 50 → Wrong log (replay_answer b standing log bytes words).place
   pub fifty_one : (b standing log : List ℕ) (bytes words : ℕ) → (replay_answer b standing log bytes words).refusal ≡ 51 → TooLong log (replay_answer b standing log bytes words).place

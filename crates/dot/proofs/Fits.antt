@@ -45,6 +45,6 @@ BeginsFit p = (q : List ℕ) × (r : Gathered) × Draws (p ++ q) r
 -- where a text leaves all that fit
 pub record ExactFit (t : List ℕ) (p : ℕ) : Type 0 where
   pub within : p ≤ length t
-  pub goes_on_lem : BeginsFit (take p t)
+  pub goes_on : BeginsFit (take p t)
   pub no_further : p < length t → BeginsFit (take (suc p) t) → ⊥
   pub no_drawing : (r : Gathered) → Draws t r → ⊥

@@ -10,7 +10,7 @@ use Rattle.fault.specs.Fault.{◌if◌else◌}
 use Rattle.decimal.specs.Numbers.{text}
 use Rattle.decimal.specs.Digits.{is_digit, goes_on}
 use Rattle.dot.specs.declared.Shape.{Shape}
-use Rattle.dot.specs.Text.{is_blank, state_shape, rule_shape, joint_at, joint, negative, Piece, space, Spaced, over, letter, one_more_lem, no_more as no_blank_lem, needed, table_text}
+use Rattle.dot.specs.Text.{is_blank, state_shape, rule_shape, joint_at, joint, negative, Piece, space, Spaced, over, letter, one_more, no_more as no_blank_lem, needed, table_text}
 use Rattle.dot.specs.Plan.{Slot, cell_of, One, byte, blank as one-blank, line, kind, Item, gap, num, one, plan, bytes, lines, header, named, numbers, label, state_line, rule_line, ending}
 use Rattle.dot.specs.Reading.{Num, none, minus, some, can_minus, limit, Grown, grown, no_more, grow, byte_of, Gathered, nothing_read, put, new_state, new_rule, next_state, Turn, halt, to, take1, ByteStep, stuck, at, turned, growing, whole, next, ended, Outcome, drawn, fault, later, onward, run, reading}
 use Rattle.dot.specs.Drawing.{Tokens, Drawing}
@@ -300,7 +300,7 @@ gap_between p q a m =
 spaced-append : {a b : List Piece} {p u : List ℕ} → Spaced a p → Spaced b u → Spaced (a ++ b) (p ++ u)
 spaced-append over s = s
 spaced-append (letter r) s = letter (spaced-append r s)
-spaced-append (one_more_lem h r) s = one_more_lem h (spaced-append r s)
+spaced-append (one_more h r) s = one_more h (spaced-append r s)
 spaced-append (no_blank_lem r) s = no_blank_lem (spaced-append r s)
 spaced-append (needed h r) s = needed h (spaced-append r s)
 
@@ -324,7 +324,7 @@ tokens-gap B k n m s p u a b d t e f g h =
           few_states = t.few_states;
           all_bytes = t.all_bytes;
           whole = t.whole;
-          spaced = rw e (spaced-append f (one_more_lem z (no_blank_lem g)));
+          spaced = rw e (spaced-append f (one_more z (no_blank_lem g)));
         };
       };
     }

@@ -6,7 +6,7 @@ use mathlib.Core.List.{List, [], ◌∷◌, ◌++◌}
 use lib.Dec.{eqb}
 use borrow.Author.Tests.{eqb-true}
 use Rattle.decimal.specs.Numbers.{spelling}
-use Rattle.dot.specs.Text.{is_blank, Piece, char, space, must, Spaced, over, letter, one_more_lem, no_more, needed, chars, after}
+use Rattle.dot.specs.Text.{is_blank, Piece, char, space, must, Spaced, over, letter, one_more, no_more, needed, chars, after}
 use Rattle.dot.specs.Plan.{Slot, cell, cell_of, One, byte, blank as one-blank, Item, gap, num, one, bytes}
 use Rattle.dot.specs.Reading.{Num, none, some, can_minus, byte_of, Gathered, put, Turn, halt, to, take1, turned}
 use Rattle.dot.proofs.Fits.{spell, Fits, done, blank, no_blank_lem, number, single}
@@ -39,7 +39,7 @@ bytes_go (c ∷ w) g = byte-goes c (bytes_go w g)
 
 -- any blanks
 pub gap-goes : {d : List ℕ} {p : List Piece} {k : List Item} {r q : Gathered} → Goes p k r q → Goes (space d ∷ p) (gap ∷ k) r q
-gap-goes g t (one_more_lem {t = u} h s) = blank h (gap-goes g u s)
+gap-goes g t (one_more {t = u} h s) = blank h (gap-goes g u s)
 gap-goes g t (no_more s) = no_blank_lem (g t s)
 
 -- the blank that must be
@@ -135,7 +135,7 @@ must-rest f =
 pub gap-rest : (d : List ℕ) {k : List Item} {r q : Gathered} {x : Num} {t : List ℕ} → Fits (gap ∷ k) r x t q → RestFits (λ p. space d ∷ p) k r q t
 gap-rest d (blank h f) =
     let e = gap-rest d f in
-    record { rest = e.rest; fits = e.fits; spaced = λ p s. one_more_lem h (e.spaced p s) }
+    record { rest = e.rest; fits = e.fits; spaced = λ p s. one_more h (e.spaced p s) }
 gap-rest d (no_blank_lem {t = t} f) = record { rest = t; fits = f; spaced = λ p s. no_more s }
 
 -- a token after its gap

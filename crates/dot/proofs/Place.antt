@@ -15,7 +15,7 @@ use Rattle.dot.proofs.Complete.{complete, neat_header, not-drawn}
 -- of a run that ends at the place p
 record Stops (t : List ℕ) (k : List Item) (r : Gathered) (x : Num) (p : ℕ) : Type 0 where
   within : p ≤ length t
-  goes_on_lem : (q : List ℕ) × (r' : Gathered) × Fits k r x (take p t ++ q) r'
+  goes_on : (q : List ℕ) × (r' : Gathered) × Fits k r x (take p t ++ q) r'
   no_further : p < length t → (q : List ℕ) (r' : Gathered) → run (take (suc p) t ++ q) k r x ≡ drawn r' → ⊥
 
 -- what an outcome tells of the text
@@ -31,7 +31,7 @@ StoppedAt (at k r x) t = Stopped (run t k r x) t k r x
 -- where the text ends
 stops_end : (k : List Item) (r : Gathered) (x : Num) → Sane k x → (b : Bool) → Stopped (cond b (drawn r) (fault 0)) [] k r x
 stops_end k r x s true = tt
-stops_end k r x s false = record { within = omega arith; goes_on_lem = ends k r x s; no_further = λ h. omega arith }
+stops_end k r x s false = record { within = omega arith; goes_on = ends k r x s; no_further = λ h. omega arith }
 
 -- what is drawn one byte later is drawn
 earlier : (o : Outcome) (r : Gathered) → later o ≡ drawn r → o ≡ drawn r
@@ -47,7 +47,7 @@ stops-later (drawn _) c t k k' r r' x x' h b s = tt
 stops-later (fault p) c t k k' r r' x x' h b s =
     record {
       within = omega arith;
-      goes_on_lem = (s.goes_on_lem.0, s.goes_on_lem.1, b (take p t ++ s.goes_on_lem.0) s.goes_on_lem.1 s.goes_on_lem.2);
+      goes_on = (s.goes_on.0, s.goes_on.1, b (take p t ++ s.goes_on.0) s.goes_on.1 s.goes_on.2);
       no_further = λ l q r'' e. s.no_further (omega arith) q r'' (earlier (run (take (suc p) t ++ q) k' r' x') r'' (rw h at e));
     }
 
@@ -56,7 +56,7 @@ stops-step : (c : ℕ) (t : List ℕ) (k : List Item) (r : Gathered) (x : Num) �
     StoppedAt e t → ((u : List ℕ) (r'' : Gathered) → Then e u r'' → Fits k r x (c ∷ u) r'') → Stopped (onward e (run t)) (c ∷ t) k r x
 unfolding onward run
 stops-step c t k r x s stuck h i b =
-    record { within = omega arith; goes_on_lem = ends k r x s; no_further = λ l q r'' e. not-drawn (rw h at e) }
+    record { within = omega arith; goes_on = ends k r x s; no_further = λ l q r'' e. not-drawn (rw h at e) }
 stops-step c t k r x s (at k' r' x') h i b = stops-later (run t k' r' x') c t k k' r r' x x' h b i
 
 -- every fault is where the run stops
@@ -77,7 +77,7 @@ exact t p e =
     let s : Stops t header nothing_read none p = rw e at (stops t header nothing_read none tt) in
     record {
       within = s.within;
-      goes_on_lem = s.goes_on_lem;
+      goes_on = s.goes_on;
       no_further = λ l b. s.no_further l b.0 b.1 (complete neat_header b.2);
       no_drawing = λ r d. not-drawn (sym e ∙ complete neat_header d);
     }

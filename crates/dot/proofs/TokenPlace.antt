@@ -24,10 +24,10 @@ drawing-draws t d =
 pub exact-place : (t : List ℕ) (p : ℕ) → reading t ≡ fault p → Exact t p
 exact-place t p e =
     let x = exact t p e in
-    let b = x.goes_on_lem in
+    let b = x.goes_on in
     record {
       within = x.within;
-      goes_on_lem = (b.0, draws-drawing (take p t ++ b.0) b.1 b.2);
+      goes_on = (b.0, draws-drawing (take p t ++ b.0) b.1 b.2);
       no_further = λ l f. let d = drawing-draws (take (suc p) t ++ f.0) f.1 in x.no_further l (f.0, d.0, d.1);
       no_drawing = λ f. let d = drawing-draws t f in x.no_drawing d.0 d.1;
     }

@@ -15,7 +15,7 @@ use Rattle.table.specs.Table.{states_of, rules_of, types_byte, factor_of, state_
 use Rattle.table.specs.Facts.{Sized}
 use Rattle.decimal.specs.Numbers.{text, decimal, spelling}
 use Rattle.dot.specs.declared.Shape.{Shape}
-use Rattle.dot.specs.Text.{is_blank, state_shape, rule_shape, negative, Piece, char, space, must, written, Spaced, over, letter, one_more_lem, no_more, needed, chars, head_text, joint, numbers_text, label_text, state_text, rule_text, states_text, rules_text, end_text, table_text, drawing_of}
+use Rattle.dot.specs.Text.{is_blank, state_shape, rule_shape, negative, Piece, char, space, must, written, Spaced, over, letter, one_more, no_more, needed, chars, head_text, joint, numbers_text, label_text, state_text, rule_text, states_text, rules_text, end_text, table_text, drawing_of}
 use Rattle.dot.specs.Plan.{types, factor, name, cell, Item, lines, header, named, numbers, label, state_line, rule_line, ending}
 use Rattle.dot.specs.Reading.{can_minus, Gathered, nothing_read, put, new_state, new_rule, next_state, to, take1, drawn, reading}
 use Rattle.senders.proofs.TallyLaws.{and_both as both}
@@ -159,7 +159,7 @@ tidy (must ∷ p) = tidy p
 -- blanks in a gap
 blanks_spaced : (d e : List ℕ) (p : List Piece) (t : List ℕ) → all_blank d ≡ true → Spaced p t → Spaced (space e ∷ p) (d ++ t)
 blanks_spaced [] e p t h s = no_more s
-blanks_spaced (c ∷ d) e p t h s = let b = both (is_blank c) (all_blank d) h in one_more_lem b.0 (blanks_spaced d e p t b.1 s)
+blanks_spaced (c ∷ d) e p t h s = let b = both (is_blank c) (all_blank d) h in one_more b.0 (blanks_spaced d e p t b.1 s)
 
 -- the written text has the same tokens
 pub written-spaced : (p : List Piece) → tidy p ≡ true → Spaced p (written p)

@@ -29,6 +29,6 @@ Begins p = (q : List ℕ) × Drawing (p ++ q)
 -- 60's place: some drawing goes on before it and none one byte further; where it is the text's length, the text begins a drawing and is none
 pub record Exact (t : List ℕ) (p : ℕ) : Type 0 where
   pub within : p ≤ length t
-  pub goes_on_lem : Begins (take p t)
+  pub goes_on : Begins (take p t)
   pub no_further : p < length t → Begins (take (suc p) t) → ⊥
   pub no_drawing : Drawing t → ⊥

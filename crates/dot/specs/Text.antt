@@ -32,7 +32,7 @@ written (must ∷ p) = 32 ∷ written p
 pub data Spaced : List Piece → List ℕ → Type 0 where
   over : Spaced [] []
   letter : {b : ℕ} {p : List Piece} {t : List ℕ} → Spaced p t → Spaced (char b ∷ p) (b ∷ t)
-  one_more_lem : {d : List ℕ} {p : List Piece} {c : ℕ} {t : List ℕ} → is_blank c ≡ true → Spaced (space d ∷ p) t → Spaced (space d ∷ p) (c ∷ t)
+  one_more : {d : List ℕ} {p : List Piece} {c : ℕ} {t : List ℕ} → is_blank c ≡ true → Spaced (space d ∷ p) t → Spaced (space d ∷ p) (c ∷ t)
   no_more : {d : List ℕ} {p : List Piece} {t : List ℕ} → Spaced p t → Spaced (space d ∷ p) t
   needed : {p : List Piece} {c : ℕ} {t : List ℕ} → is_blank c ≡ true → Spaced p t → Spaced (must ∷ p) (c ∷ t)
 

@@ -2,125 +2,139 @@
 // bundle"). Its standing table is the echo table.
 #![tactic(auto)]
 
-ghost use Rattle.std.specs.Prelude.{◌≡◌, ◌≤◌, ◌<◌, length};
+ghost use Rattle.std.specs.Prelude.{◌≡◌, ◌≤◌, ◌<◌, length, IfOk};
 ghost use Rattle.words.specs.Words.{room_of};
 ghost use Rattle.rules.specs.Kept.{kept_room};
 ghost use Rattle.words.specs.Facts.{most_words, Bounded, At};
 
+use std::io;
+use std::io::Read;
 use words::Sizes;
 
 // A table of 16 states and 64 rules of 18 bytes, 64 starts, 4,096 steps and two trailers.
 const LARGEST: usize = 17648;
 
-fn main() {
+fn main(rt: HostRuntime) -> io::Result<()> {
     let mut input = [0u8; 17649];
-    let n = io::read_full(0, &mut input);
-    report(&input[..n]);
+    let n = read_input(&rt, &mut input)?;
+    report(&rt, &input[..n])
 }
 
-fn report(bundle: &[u8]) {
+// Reads until the input ends or the bytes are full: how many came.
+fn read_input(rt: &impl Input, input: &mut [u8]) -> io::Result<usize>
+    ensures within { IfOk result (λ n. n ≤ length input.new) }
+{
+    let mut reader = rt.reader();
+    let mut n = 0;
+    while n < input.len() {
+        let came = reader.read(&mut input[n..])?;
+        if came == 0 {
+            return Ok(n);
+        }
+        n += came;
+    }
+    Ok(n)
+}
+
+fn report(rt: &impl Print, bundle: &[u8]) -> io::Result<()> {
     if LARGEST < bundle.len() {
-        print_result(40, 0, 0);
-        return;
+        return print_result(rt, 40, 0, 0);
     }
     let standing = echo::table();
     let mut ends = [0u8; rules::ROOM];
     let mut leasts = [0u16; rules::ROOM];
     let mut words = [0u64; words::MOST];
-    report_run(bundle, &standing, &mut ends, &mut leasts, &mut words);
+    report_run(rt, bundle, &standing, &mut ends, &mut leasts, &mut words)
 }
 
 // The first line; then, where steps were looked at, the configuration. There is room for any, so that what was read was run.
 fn report_run<'a>(
+    rt: &impl Print,
     bundle: &'a [u8],
     standing: &'a [u8],
     ends: &mut [u8],
     leasts: &mut [u16],
     words: &mut [u64],
-)
+) -> io::Result<()>
     requires { (length ends.old ≡ kept_room) × (length leasts.old ≡ kept_room) × (most_words ≤ length words.old) }
 {
     let a = engine::run(bundle, standing, words);
-    print_result(a.refusal, a.place, a.count);
+    print_result(rt, a.refusal, a.place, a.count)?;
     let o = engine::open(bundle, standing, ends, leasts);
     if o.number != 0 {
-        return;
+        return Ok(());
     }
     let s = o.sizes;
     let need = words::room(s);
-    print_configuration(s, &words[..need]);
+    print_configuration(rt, s, &words[..need])
 }
 
-fn print_result(refusal: u64, place: u64, count: u64) {
-    io::write_all(1, b"result");
-    print_next(refusal);
-    print_next(place);
-    print_next(count);
-    end_line();
+fn print_result(rt: &impl Print, refusal: u64, place: u64, count: u64) -> io::Result<()> {
+    println!(rt; "result {refusal} {place} {count}")
 }
 
 // A line for each board, then one for what was sent and one for the stopped boards.
-fn print_configuration(s: Sizes, w: &[u64])
+fn print_configuration(rt: &impl Print, s: Sizes, w: &[u64]) -> io::Result<()>
     requires { (Bounded s) × (length w.now ≡ room_of s) }
 {
     let boards = s.correct;
     for p in 0..boards {
-        print_board(s, w, p);
+        print_board(rt, s, w, p)?;
     }
-    print_sent(s, w);
-    print_stopped(s, w);
+    print_sent(rt, s, w)?;
+    print_stopped(rt, s, w)
 }
 
 // Board, state, then the counts of each type.
-fn print_board(s: Sizes, w: &[u64], p: usize)
+fn print_board(rt: &impl Print, s: Sizes, w: &[u64], p: usize) -> io::Result<()>
     requires { (Bounded s) × (p < s.correct) × (length w.now ≡ room_of s) }
 {
-    io::write_all(1, b"p");
-    print_next(p as u64);
-    print_next(words::state_in(s, w, p));
+    print!(rt; "p")?;
+    print_next(rt, p as u64)?;
+    print_next(rt, words::state_in(s, w, p))?;
     let types = s.types;
     for m in 0..types {
-        print_cell(s, w, p, m);
+        print_cell(rt, s, w, p, m)?;
     }
-    end_line();
+    end_line(rt)
 }
 
 // Correct and faulty count, or the one of a plain counter.
-fn print_cell(s: Sizes, w: &[u64], p: usize, m: usize)
+fn print_cell(rt: &impl Print, s: Sizes, w: &[u64], p: usize, m: usize) -> io::Result<()>
     requires { (Bounded s) × (At s p m) × (length w.now ≡ room_of s) }
 {
-    print_next(words::correct_in(s, w, p, m));
+    print_next(rt, words::correct_in(s, w, p, m))?;
     if s.level < 2 {
-        print_next(words::faulty_in(s, w, p, m));
+        print_next(rt, words::faulty_in(s, w, p, m))?;
     }
+    Ok(())
 }
 
 // One count for each type.
-fn print_sent(s: Sizes, w: &[u64])
+fn print_sent(rt: &impl Print, s: Sizes, w: &[u64]) -> io::Result<()>
     requires { (Bounded s) × (length w.now ≡ room_of s) }
 {
-    io::write_all(1, b"sent");
+    print!(rt; "sent")?;
     let types = s.types;
     for m in 0..types {
-        print_next(words::sent_in(s, w, m));
+        print_next(rt, words::sent_in(s, w, m))?;
     }
-    end_line();
+    end_line(rt)
 }
 
 // The set of stopped boards, as its word.
-fn print_stopped(s: Sizes, w: &[u64])
+fn print_stopped(rt: &impl Print, s: Sizes, w: &[u64]) -> io::Result<()>
     requires { (Bounded s) × (length w.now ≡ room_of s) }
 {
-    io::write_all(1, b"stopped");
-    print_next(words::stopped_in(s, w));
-    end_line();
+    print!(rt; "stopped")?;
+    print_next(rt, words::stopped_in(s, w))?;
+    end_line(rt)
 }
 
-fn print_next(number: u64) {
-    io::write_all(1, b" ");
-    io::print_decimal(1, number);
+fn print_next(rt: &impl Print, number: u64) -> io::Result<()> {
+    print!(rt; " {number}")
 }
 
-fn end_line() {
-    io::write_all(1, b"\n");
+fn end_line(rt: &impl Print) -> io::Result<()> {
+    println!(rt;)
 }
