@@ -18,7 +18,7 @@ fn main() {
     let archive = folder.join("libcapi.a");
     println!("cargo:rerun-if-changed={}", archive.display());
     if !archive.is_file() {
-        eprintln!("There is no {}. Run 'rt staticlib capi' in the repository first.", archive.display());
+        eprintln!("There is no {}. Run 'tools/archive' in the repository first.", archive.display());
         std::process::exit(1);
     }
     println!("cargo:rustc-link-search=native={}", folder.display());

@@ -82,10 +82,10 @@ mod script {
     // A checkout in small: the real scripts around a program that shows its folder and its words and ends with status 1.
     fn checkout(at: PathBuf) -> PathBuf {
         let at = emptied(at);
-        for folder in ["tools", "crates/capi/src", "host/src", "target/staticlib"] {
+        for folder in ["tools", "crates/capi/src", "crates/capi_c/src", "host/src", "target/staticlib"] {
             fs::create_dir_all(at.join(folder)).expect("a folder");
         }
-        for file in ["macaroosh", "tools/cargo", "tools/setup", "crates.txt"] {
+        for file in ["macaroosh", "tools/archive", "tools/cargo", "tools/setup", "crates.txt"] {
             fs::copy(root().join(file), at.join(file)).expect("a copy");
         }
         let files = [

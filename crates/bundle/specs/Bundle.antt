@@ -1,5 +1,5 @@
 -- The bundle: the front, then the schedule part: start bytes, step records, trailer (outline, "Bundle layout").
-use Rattle.std.specs.Prelude.{List, ℕ, zero, suc, ◌+◌, ◌-◌, ◌*◌, eqb, length, take, drop}
+use Rattle.std.specs.Prelude.{List, ℕ, zero, suc, ◌+◌, ◌-◌, eqb, length, take, drop}
 use Rattle.fault.specs.Bytes.{byte_at, u16_at, trailer_of, trailer_bytes, most_step_bytes}
 use Rattle.fault.specs.Fault.{◌if◌else◌}
 use Rattle.table.specs.Table.{most_table}

@@ -23,7 +23,7 @@ use Rattle.first_step.specs.declared.First.{First}
 use Rattle.first_step.specs.Entry.{first_answer}
 use Rattle.first_step.proofs.BoundLaws.{FirstWithin, first-answer-within}
 use Rattle.replay.specs.Entry.{replay_answer}
-use Rattle.replay.proofs.BoundLaws.{ReplayWithin, replay-within}
+use Rattle.replay.proofs.BoundLaws.{replay-within}
 use Rattle.counted.specs.declared.Counted.{Counted}
 use Rattle.counted.specs.Entry.{counted_answer}
 use Rattle.counted.proofs.Bounds.{receipts-within, sends-within}

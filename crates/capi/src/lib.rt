@@ -29,11 +29,7 @@ pub fn macaroosh_run<'a>(bundle: &'a [u8], standing: &'a [u8], words: &mut [u64]
 }
 
 // The same, with the receipts and the sends of its accepted steps: refusal, place, receipts + 65,536 · sends.
-pub fn macaroosh_receipts<'a>(
-    bundle: &'a [u8],
-    standing: &'a [u8],
-    words: &mut [u64],
-) -> u64
+pub fn macaroosh_receipts<'a>(bundle: &'a [u8], standing: &'a [u8], words: &mut [u64]) -> u64
     ensures value { result ≡ packed (receipts_answer (counted_answer bundle.now standing.now (length words.old))) }
     ensures words_after { words.new ≡ run_words bundle.now standing.now words.old }
 {
@@ -53,11 +49,7 @@ fn receipts_of(a: Counted) -> Answer
 }
 
 // Writes a bundle's translation to the form that its own usually goes to into the lent bytes: refusal, place, bytes written.
-pub fn macaroosh_translate<'a>(
-    bundle: &'a [u8],
-    standing: &'a [u8],
-    out: &mut [u8],
-) -> u64
+pub fn macaroosh_translate<'a>(bundle: &'a [u8], standing: &'a [u8], out: &mut [u8]) -> u64
     ensures value { result ≡ packed (translate_answer bundle.now standing.now (length out.old)) }
     ensures out_after { out.new ≡ translate_bytes bundle.now standing.now out.old }
 {
@@ -151,11 +143,7 @@ pub fn macaroosh_search<'a>(
 }
 
 // Checks a list of configurations for a bundle without steps: refusal, place, number of configurations.
-pub fn macaroosh_check_list<'a>(
-    bundle: &'a [u8],
-    standing: &'a [u8],
-    list: &[u64],
-) -> u64
+pub fn macaroosh_check_list<'a>(bundle: &'a [u8], standing: &'a [u8], list: &[u64]) -> u64
     ensures { result ≡ packed (list_answer bundle.now standing.now list.now) }
 {
     pack(lists::check_list(bundle, standing, list))

@@ -1,5 +1,5 @@
 -- Demand 2.
-use mathlib.Core.Path.{◌≡◌, refl, sym, ap, ◌∙◌, subst, subst⁻¹}
+use mathlib.Core.Path.{◌≡◌, refl, sym, ap, ◌∙◌, subst⁻¹}
 use mathlib.Core.Bool.{false, true≢false}
 use mathlib.Core.List.{List, [], ◌∷◌}
 use Prim.Native.Nat.{ℕ, zero, suc, ◌<◌, suc-le-suc}
@@ -13,7 +13,7 @@ use Rattle.bundle.specs.Facts.{Read}
 use Rattle.bundle.proofs.BundleLaws.{read_by}
 use Rattle.rules.proofs.RuleLaws.{initial-is}
 use Rattle.paper.specs.Paper.{Design, Interp, Conf, Step, Same, Steps, by_rule, by_stop, Initial, stop_rule, is_stop}
-use Rattle.paper.specs.Words.{state, start}
+use Rattle.paper.specs.Words.{state}
 use Rattle.paper.specs.Form.{wide}
 use Rattle.paper.specs.Step.{column_of, view, step_fault, stepped}
 use Rattle.paper.specs.Machine.{run_by}

@@ -1,24 +1,15 @@
 -- What is refused of the records of a drawn table is none of 1, 3, 60.
-use mathlib.Core.Path.{◌≡◌, refl, sym, ap, ◌∙◌}
-use mathlib.Core.Bool.{Bool, true, false, cond, ◌||◌}
-use mathlib.Core.List.{List, [], ◌∷◌, ◌++◌}
-use Prim.Native.Nat.{ℕ, zero, suc, ◌+◌, ◌-◌, ◌*◌, ◌/◌, ◌%◌, ◌≤◌, ◌<◌}
+use mathlib.Core.Path.{◌≡◌}
+use mathlib.Core.Bool.{Bool, true, false, cond}
+use mathlib.Core.List.{List}
+use Prim.Native.Nat.{ℕ, zero, suc, ◌≤◌}
 use native.Mathlib.Omega.{arith}
 use lib.Dec.{eqb}
-use lib.ListN.{length, take, drop, length-append, take-append-drop, drop_of_length-le}
-use lib.Seq.{drop-cons, get_or-append-add}
-use borrow.Author.Tests.{eq-eqb, le-ltb}
 use Rattle.fault.specs.declared.Verdict.{Verdict}
-use Rattle.fault.specs.Bytes.{byte_at}
-use Rattle.fault.specs.Tests.{◌differs◌, outside}
-use Rattle.fault.specs.Fault.{fine, verdict, refused, ◌if◌else◌, ◌▹◌, first_fault}
-use Rattle.fault.proofs.FaultLaws.{if_keeps, if_passed, Clean}
-use Rattle.fault.proofs.TestLaws.{or-none, same}
-use Rattle.layout.specs.Layout.{types_in, rule_bytes}
-use Rattle.table.specs.Table.{state_distance, rule_distance, states_of, rules_of, types_byte, types_of, factor_of, rule_size, records_bytes}
-use Rattle.table.specs.Refusals.{counts_outside, too_short, counts_off, distances_off, no_initial, no_state, divisor_off, forgets, sends_two, state_off, state_fault, rule_fault, records_fault, table_fault}
-use Rattle.table.specs.Facts.{Sized}
-use Rattle.table.proofs.TableLaws.{sized}
+use Rattle.fault.specs.Fault.{fine, verdict, refused, ◌▹◌, first_fault}
+use Rattle.fault.proofs.FaultLaws.{if_keeps}
+use Rattle.table.specs.Table.{states_of, rules_of}
+use Rattle.table.specs.Refusals.{no_initial, no_state, divisor_off, forgets, sends_two, state_off, state_fault, rule_fault, records_fault}
 
 -- ---- refusals of records
 -- none of 1, 3, 60

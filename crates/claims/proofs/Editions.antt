@@ -1,24 +1,24 @@
 -- A moved table says the same, so everything that reads it answers the same; moved back it is what its own edition writes, which is itself.
 use mathlib.Core.Path.{◌≡◌, refl, sym, ap, ◌∙◌, subst}
-use mathlib.Core.Bool.{Bool, true, false, not}
-use mathlib.Core.List.{List, [], ◌++◌}
-use Prim.Native.Nat.{ℕ, zero, suc, ◌+◌, ◌-◌, ◌*◌, ◌≤◌, ◌<◌}
+use mathlib.Core.Bool.{Bool, false, not}
+use mathlib.Core.List.{List, ◌++◌}
+use Prim.Native.Nat.{ℕ, zero, suc, ◌+◌, ◌-◌, ◌≤◌, ◌<◌}
 use native.Mathlib.Decide.{ℕ_discrete}
 use native.Mathlib.Omega.{arith}
 use lib.ListN.{length, take, drop, replicate, length-drop, length-replicate, take-append-drop}
-use lib.Seq.{length-take-le, get_or-drop}
+use lib.Seq.{get_or-drop}
 use borrow.Author.Tests.{lt-leb, le-leb, eq-eqb}
 use Rattle.senders.specs.Tally.{some}
 use Rattle.fault.specs.declared.Verdict.{Verdict}
 use Rattle.fault.specs.declared.Answer.{Answer}
-use Rattle.fault.specs.Bytes.{byte_at, u16_at, trailer_bytes, trailer_of}
+use Rattle.fault.specs.Bytes.{byte_at, trailer_bytes, trailer_of}
 use Rattle.fault.specs.Tests.{◌differs◌}
-use Rattle.fault.specs.Fault.{fine, refused, ◌if◌else◌, ◌▹◌, first_fault}
-use Rattle.fault.proofs.FaultLaws.{Clean, then_pass, first-none}
+use Rattle.fault.specs.Fault.{fine, ◌if◌else◌, ◌▹◌, first_fault}
+use Rattle.fault.proofs.FaultLaws.{Clean, then_pass}
 use Rattle.threshold.specs.declared.Weights.{Weights}
 use Rattle.threshold.specs.Threshold.{threshold_of}
-use Rattle.layout.specs.Layout.{second, second_of, types_in, weights_of, divisor_at, weights_at}
-use Rattle.table.specs.Table.{states_of, rules_of, types_byte, types_of, rule_of, weights_for}
+use Rattle.layout.specs.Layout.{second, types_in}
+use Rattle.table.specs.Table.{rules_of, types_byte, types_of, rule_of, weights_for}
 use Rattle.table.specs.Refusals.{table_fault}
 use Rattle.table.specs.Facts.{Sized}
 use Rattle.table.proofs.TableLaws.{well_formed}

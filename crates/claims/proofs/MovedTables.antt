@@ -7,24 +7,23 @@ use Prim.Native.Nat.{ℕ, zero, suc, ◌+◌, ◌-◌, ◌*◌, ◌≤◌, ◌<�
 use native.Mathlib.Nat.{zero-mul, suc-mul, mul-zero, mul-suc}
 use native.Mathlib.Omega.{arith}
 use lib.ListN.{length, take, drop, length-append, length-drop}
-use lib.Seq.{length-take-le, take_all, take-append-le, take-add, take_at, drop_at, drop-cons, drop-drop, drop-append-add, get_or-append-add, get_or-drop, get_or-take}
-use borrow.Author.Tests.{lt-leb, le-leb}
-use Rattle.fault.specs.Bytes.{byte_at, trailer_bytes, trailer_of}
+use lib.Seq.{take_all, take-add, take_at, drop_at, drop-cons, drop-drop, drop-append-add, get_or-append-add, get_or-drop, get_or-take}
+use Rattle.fault.specs.Bytes.{byte_at, trailer_of}
 use Rattle.fault.specs.declared.Verdict.{Verdict}
 use Rattle.fault.specs.Fault.{refused, ◌if◌else◌}
 use Rattle.fault.proofs.FaultLaws.{if_passed, Clean}
 use Rattle.threshold.specs.declared.Weights.{Weights}
 use Rattle.layout.specs.Layout.{second_of, types_in, end_bytes, type_bytes, weight_bytes, rule_bytes, divisor_at, weights_at, weights_of}
 use Rattle.layout.proofs.LayoutLaws.{weights-inside}
-use Rattle.table.specs.Table.{states_of, rules_of, types_byte, types_of, factor_of, flags_of, sent_of, state_bytes, rule_size, rule_at, from_of, to_of, rule_of, weights_for, records_bytes}
+use Rattle.table.specs.Table.{states_of, rules_of, types_byte, types_of, factor_of, state_bytes, rule_size, rule_at, from_of, to_of, rule_of, weights_for, records_bytes}
 use Rattle.table.specs.Refusals.{counts_outside, too_short, counts_off, distances_off, records_fault, table_fault}
-use Rattle.table.specs.Facts.{Sized, WellFormed}
-use Rattle.table.proofs.TableLaws.{rule-inside, well_formed}
+use Rattle.table.specs.Facts.{Sized}
+use Rattle.table.proofs.TableLaws.{well_formed}
 use Rattle.table.proofs.RecordLaws.{rule-length, rule-from, rule-to}
 use Rattle.trailer.specs.Trailer.{trailer_for}
-use Rattle.trailer.proofs.TrailerLaws.{Distances, distances, own-table, sized-counts, made_at, made_records}
+use Rattle.trailer.proofs.TrailerLaws.{distances, own-table, sized-counts, made_at, made_records}
 use Rattle.editions.specs.Moved.{bytes_in, types_from, record_in, rules_from, moved_to}
-use Rattle.editions.proofs.MovedLaws.{bytes-length, types-length, record_length, rules-length, states-length}
+use Rattle.editions.proofs.MovedLaws.{bytes-length, record_length, rules-length, states-length}
 use Rattle.same.specs.Same.{SameTable}
 use Rattle.same.proofs.Tables.{records_same}
 

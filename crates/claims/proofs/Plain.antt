@@ -19,7 +19,6 @@ use Rattle.paper.specs.Paper.{Design, Step, silent}
 use Rattle.paper.specs.Form.{shown}
 use Rattle.paper.specs.Step.{sent_in, step_fault, stepped}
 use Rattle.paper.specs.Run.{run, after}
-use Rattle.paper.proofs.StepLaws.{accepted}
 use Rattle.agree.specs.Translation.{tag_of, with_source, tagged, low_sender, moved}
 use Rattle.agree.specs.Picture.{Remembers, Pictured}
 use Rattle.agree.proofs.Columns.{tag_only}

@@ -1,14 +1,11 @@
 -- What reaches an accepting state in one form does so in all: a translated schedule runs (Agreement), as many steps later the words are pictured still,
 -- and a picture has the same states. Bundles that are translated end in pictured words (Demand3).
-use mathlib.Core.Path.{◌≡◌, refl, sym, ap, ap₂, ◌∙◌, subst, subst⁻¹}
-use mathlib.Core.Bool.{Bool, ◌||◌}
+use mathlib.Core.Path.{◌≡◌, refl, sym, ap, ◌∙◌, subst, subst⁻¹}
 use mathlib.Core.List.{List, map}
-use Prim.Native.Nat.{ℕ, zero, suc, ◌≤◌, ◌<◌}
-use native.Mathlib.Nat.{le_refl}
+use Prim.Native.Nat.{ℕ, zero, suc, ◌≤◌}
 use native.Mathlib.Omega.{arith}
 use lib.ListN.{length, length-map}
 use lib.Seq.{take_all}
-use Rattle.senders.specs.Tally.{some}
 use Rattle.bundle.specs.Bundle.{table_in_use}
 use Rattle.bundle.proofs.BundleLaws.{read_by}
 use Rattle.paper.specs.Paper.{Design, Step}

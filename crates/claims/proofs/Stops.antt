@@ -1,8 +1,7 @@
 -- Q-11: the order of a step's refusals, read off its definition; and the laws of stops, at a bundle's start, where nobody is stopped and f is at most t.
 use mathlib.Core.Path.{◌≡◌, refl, ap, ◌∙◌}
-use mathlib.Core.Bool.{false, not}
 use mathlib.Core.List.{List}
-use Prim.Native.Nat.{ℕ, ◌+◌, ◌≤◌}
+use Prim.Native.Nat.{ℕ}
 use native.Mathlib.Omega.{arith}
 use lib.ListN.{take}
 use borrow.Author.Tests.{lt-leb, lt-ltb}

@@ -12,7 +12,6 @@ use Rattle.threshold.proofs.QuotientLaws.{smallest, met-is}
 use Rattle.fault.specs.Fault.{◌if◌else◌}
 use Rattle.layout.specs.Layout.{second, types_in, divisor_at, weights_at, weights_of, Divides}
 use Rattle.table.specs.Table.{rules_of, types_byte, types_of, rule_of, weights_for}
-use Rattle.table.specs.Facts.{WellFormed}
 use Rattle.table.proofs.TableLaws.{well_formed}
 use Rattle.bundle.specs.Bundle.{n_of, t_of, table_in_use}
 use Rattle.bundle.specs.Refusals.{read_fault}

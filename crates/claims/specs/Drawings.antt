@@ -1,6 +1,6 @@
 -- Drawings of a table (Q-1, "read back exactly what we write, to the same table bytes"), of either edition (Q-7), as the two calls see them:
 -- there and back, with any blanks; 60 and its place; what a drawing is answered; what one blank more changes. Proofs: proofs/Drawings.antt.
-use Rattle.std.specs.Prelude.{◌≡◌, true, false, ◌&&◌, List, ◌∷◌, ◌++◌, ℕ, ◌+◌, ◌≤◌, ◌<◌, eqb, length, drop}
+use Rattle.std.specs.Prelude.{◌≡◌, true, false, ◌&&◌, List, ◌∷◌, ◌++◌, ℕ, ◌+◌, ◌<◌, eqb, length}
 use Rattle.fault.specs.declared.Answer.{Answer}
 use Rattle.fault.specs.Bytes.{byte_at}
 use Rattle.fault.specs.Tests.{◌at_most◌}

@@ -1,7 +1,6 @@
 -- Q-8, "Moving our shelf": there and back are the same bytes, a moved table says the same, and any schedule runs the same on both. Proofs: proofs/Editions.antt.
 use Rattle.std.specs.Prelude.{◌≡◌, List, ◌++◌, ℕ, ◌+◌, ◌-◌, ◌≤◌, ◌<◌, length, take, drop}
 use Rattle.fault.specs.declared.Answer.{Answer}
-use Rattle.fault.specs.Bytes.{byte_at}
 use Rattle.layout.specs.Layout.{second}
 use Rattle.table.specs.Table.{rules_of, types_byte, types_of, weights_for}
 use Rattle.table.specs.Refusals.{table_fault}

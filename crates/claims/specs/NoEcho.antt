@@ -1,6 +1,6 @@
 -- Q-5, "No echo from nothing": property (b) of the source's introduction. Where every board starts in V0, no schedule of the echo table
 -- brings a board to SE or AC, in any form, and nothing is ever sent; in either edition (Q-7). Proofs: proofs/NoEcho.antt.
-use Rattle.std.specs.Prelude.{◌≡◌, false, List, [], ◌∷◌, ℕ, ◌+◌, ◌*◌, ◌≤◌, ◌<◌, length, take, set, replicate}
+use Rattle.std.specs.Prelude.{◌≡◌, false, List, ℕ, ◌+◌, ◌*◌, ◌≤◌, ◌<◌, length, take, replicate}
 use Rattle.fault.specs.Bytes.{byte_at}
 use Rattle.layout.specs.Layout.{second}
 use Rattle.table.specs.Table.{rules_of, types_byte, types_of, factor_of}

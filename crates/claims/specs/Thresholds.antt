@@ -2,7 +2,6 @@
 -- `met` says what its thresholds are. Proofs: proofs/Thresholds.antt.
 use Rattle.std.specs.Prelude.{◌≡◌, List, ℕ, ◌*◌, ◌≤◌, ◌<◌, pos}
 use Rattle.std.specs.Int.Signed.{le_z}
-use Rattle.threshold.specs.declared.Weights.{Weights}
 use Rattle.threshold.specs.Threshold.{sum_of, Smallest}
 use Rattle.layout.specs.Layout.{types_in}
 use Rattle.layout.specs.Layout as layout

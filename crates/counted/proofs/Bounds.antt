@@ -1,6 +1,5 @@
 -- Every answer's numbers are small, whatever the bytes: receipts at most C·T·n, sends at most C-as-T.
 use mathlib.Core.Path.{◌≡◌, refl, subst}
-use mathlib.Core.Bool.{false}
 use mathlib.Core.List.{List}
 use Prim.Native.Nat.{ℕ, ◌+◌, ◌*◌, ◌≤◌}
 use native.Mathlib.Nat.{mul-le-mul}
@@ -18,7 +17,6 @@ use Rattle.receipts.proofs.Receipts.{receipts_hold}
 use Rattle.engine.specs.Design.{sizes_in, design_in}
 use Rattle.engine.specs.Entry.{schedule_of}
 use Rattle.engine.proofs.EntryLaws.{suits}
-use Rattle.counted.specs.declared.Counted.{Counted}
 use Rattle.counted.specs.Entry.{receipts_of, sends_of, of_run, counted_answer}
 use Rattle.counted.proofs.EntryLaws.{counts-read}
 

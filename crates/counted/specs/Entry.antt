@@ -3,7 +3,6 @@ use Rattle.std.specs.Prelude.{List, ℕ}
 use Rattle.fault.specs.Tests.{◌below◌, ◌differs◌}
 use Rattle.fault.specs.Fault.{◌if◌else◌}
 use Rattle.bundle.specs.Refusals.{read_fault}
-use Rattle.paper.specs.Paper.{Design, Step}
 use Rattle.words.specs.Words.{room_of}
 use Rattle.receipts.specs.Receipts.{receipts_in, sends_in}
 use Rattle.engine.specs.Design.{sizes_in, design_in}

@@ -1,10 +1,10 @@
 -- 60's place in terms of tokens alone: before it the text begins some drawing, and one byte further it begins none.
-use Prim.Native.Nat.{ℕ, suc, ◌≤◌, ◌<◌}
+use Prim.Native.Nat.{ℕ, suc}
 use mathlib.Core.Path.{◌≡◌}
 use mathlib.Core.List.{List, ◌++◌}
-use lib.ListN.{length, take}
+use lib.ListN.{take}
 use Rattle.dot.specs.Reading.{Gathered, fault, reading}
-use Rattle.dot.specs.Drawing.{Tokens, Drawing, Begins, Exact}
+use Rattle.dot.specs.Drawing.{Drawing, Exact}
 use Rattle.dot.proofs.Fits.{Draws}
 use Rattle.dot.proofs.Place.{exact, read-draws}
 use Rattle.dot.proofs.Tokens.{draws-tokens, tokens-read}

@@ -14,7 +14,7 @@ use Rattle.table.specs.Table.{state_bytes, records_bytes}
 use Rattle.decimal.specs.Numbers.{text, decimal, spelling}
 use Rattle.dot.specs.declared.Shape.{Shape}
 use Rattle.dot.specs.Text.{Piece, space, Spaced, over, chars, after, new_line, tight, a_blank, state_shape, rule_shape, joint, negative, numbers_text, label_text, state_text, rule_text, states_text, rules_text, end_text, head_text, table_text}
-use Rattle.dot.specs.Plan.{types, factor, cell_of, line, kind, Item, gap, num, one, lines, ending, named, numbers, label, state_line, rule_line}
+use Rattle.dot.specs.Plan.{cell_of, line, kind, Item, gap, num, one, lines, ending, named, numbers, label, state_line, rule_line}
 use Rattle.dot.specs.Reading.{none, can_minus, Gathered, nothing_read, put, new_state, new_rule, next_state, halt, to, take1, turned, drawn, reading}
 use Rattle.dot.specs.Drawing.{Tokens}
 use Rattle.dot.proofs.Fits.{Fits, done, Draws}

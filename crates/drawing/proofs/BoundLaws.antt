@@ -4,12 +4,8 @@ use mathlib.Core.List.{List}
 use Prim.Native.Nat.{ℕ, ◌+◌, ◌≤◌}
 use native.Mathlib.Omega.{arith}
 use lib.ListN.{length}
-use Rattle.fault.specs.declared.Verdict.{Verdict}
-use Rattle.fault.specs.declared.Answer.{Answer}
-use Rattle.fault.specs.Tests.{◌below◌, ◌differs◌}
-use Rattle.fault.specs.Fault.{refused, ◌if◌else◌}
-use Rattle.fault.proofs.FaultLaws.{Clean, Within, if_keeps, if_passed, check_within}
-use Rattle.fault.proofs.TestLaws.{same}
+use Rattle.fault.specs.Fault.{refused}
+use Rattle.fault.proofs.FaultLaws.{Clean, Within, if_passed, check_within}
 use Rattle.layout.specs.Layout.{types_in}
 use Rattle.table.specs.Table.{most_table}
 use Rattle.table.specs.Refusals.{counts_outside, table_fault}

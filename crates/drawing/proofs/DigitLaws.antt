@@ -13,7 +13,7 @@ use Rattle.decimal.specs.declared.Number as declared
 use Rattle.decimal.specs.Digits.{is_digit, peeked, Number, Ends}
 use Rattle.decimal.proofs.DigitLaws.{seen, seen_byte, digit-range, longest-least}
 use Rattle.dot.specs.Plan.{Slot, Item, num}
-use Rattle.dot.specs.Reading.{can_minus, limit, none, minus, some, begun, grown, no_more, grow, byte_of, Gathered, put, stuck, at, growing, whole, next, ended}
+use Rattle.dot.specs.Reading.{can_minus, limit, none, minus, some, begun, grown, no_more, grow, byte_of, Gathered, put, stuck, growing, whole, next, ended}
 use Rattle.dot.proofs.Digits.{first, grow_first, reads-longest}
 use Rattle.drawing.specs.declared.Cursor.{Cursor}
 use Rattle.drawing.specs.Cursor.{from, Begun, Counted, Digits, RestOfDigits}

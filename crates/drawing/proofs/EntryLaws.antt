@@ -1,24 +1,21 @@
 -- The answers of the two calls in each of their cases, and the bytes that are left.
 use mathlib.Core.Path.{◌≡◌, refl, sym, ap, ◌∙◌}
-use mathlib.Core.Bool.{Bool, true, false, not}
-use mathlib.Core.List.{List, [], ◌∷◌, ◌++◌}
-use Prim.Native.Nat.{ℕ, ◌+◌, ◌*◌, ◌%◌, ◌/◌, ◌≤◌, ◌<◌}
+use mathlib.Core.Bool.{Bool, true, false}
+use mathlib.Core.List.{List, [], ◌++◌}
+use Prim.Native.Nat.{ℕ, ◌+◌, ◌≤◌}
 use native.Mathlib.Omega.{arith}
 use lib.ListN.{length, take, drop, length-append}
 use lib.Seq.{take_at}
-use borrow.Author.Tests.{eq-eqb, ne_eqb, lt-ltb, le-ltb}
 use Rattle.fault.specs.declared.Verdict.{Verdict}
 use Rattle.fault.specs.declared.Answer.{Answer}
-use Rattle.fault.specs.Tests.{◌below◌, ◌differs◌}
-use Rattle.fault.specs.Fault.{refused, nothing_done}
 use Rattle.fault.proofs.FaultLaws.{if_yes, if_no}
 use Rattle.ink.specs.Ink.{stored}
 use Rattle.ink.proofs.GivenLaws.{Gave, gave_refused}
 use Rattle.ink.proofs.InkLaws.{stored_more, stored-length, stored-whole, stored-nothing}
-use Rattle.layout.specs.Layout.{types_in, rule_bytes}
-use Rattle.table.specs.Table.{most_records, most_table, state_bytes}
+use Rattle.layout.specs.Layout.{types_in}
+use Rattle.table.specs.Table.{most_records, most_table}
 use Rattle.table.specs.Refusals.{counts_outside, table_fault}
-use Rattle.table.specs.Facts.{CountsFit, Sized}
+use Rattle.table.specs.Facts.{Sized}
 use Rattle.table.proofs.TableLaws.{well_formed, counts_by, records_short}
 use Rattle.fault.specs.Bytes.{trailer_bytes}
 use Rattle.trailer.specs.Trailer.{trailer_for}

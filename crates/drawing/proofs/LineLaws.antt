@@ -7,7 +7,7 @@ use native.Mathlib.Omega.{arith}
 use native.Mathlib.Nat.{add-mul, one-mul}
 use lib.Dec.{eqb}
 use lib.ListN.{length, length-append}
-use borrow.Author.Tests.{eqb-true, eqb-false, eq-eqb, ne_eqb, not-true, not-false}
+use borrow.Author.Tests.{eqb-true, eq-eqb, ne_eqb, not-true, not-false}
 use Rattle.senders.proofs.TallyLaws.{and_both as both}
 use Rattle.fault.specs.Bytes.{byte_at}
 use Rattle.fault.specs.Fault.{◌if◌else◌}
@@ -22,7 +22,7 @@ use Rattle.decimal.proofs.DigitLaws.{seen, seen_byte}
 use Rattle.dot.specs.declared.Shape.{Shape}
 use Rattle.dot.specs.Text.{state_shape, rule_shape}
 use Rattle.dot.specs.Plan.{Item, gap, num, one, line, kind, types, factor, name, cell, plan, lines, header, named, label, state_line, rule_line, ending}
-use Rattle.dot.specs.Reading.{can_minus, none, Gathered, nothing_read, put, new_state, new_rule, next_state, ByteStep, stuck, at, turned, to, halt, take1, next, ended, Outcome, drawn, fault, run, reading}
+use Rattle.dot.specs.Reading.{can_minus, none, Gathered, nothing_read, put, new_state, new_rule, next_state, stuck, turned, to, halt, take1, next, ended, Outcome, drawn, fault, run, reading}
 use Rattle.dot.proofs.Digits.{shifted_none}
 use Rattle.drawing.specs.declared.Cursor.{Cursor}
 use Rattle.drawing.specs.declared.Reader.{Reader}

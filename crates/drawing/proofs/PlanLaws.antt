@@ -8,14 +8,14 @@ use native.Mathlib.Numerals.{add-one}
 use lib.Dec.{eqb}
 use lib.ListN.{length, drop, drop_of_length-le}
 use lib.Seq.{drop-cons}
-use borrow.Author.Tests.{eqb-true, eqb-false, eq-eqb, ne_eqb}
+use borrow.Author.Tests.{eq-eqb, ne_eqb}
 use Rattle.fault.specs.Bytes.{byte_at}
 use Rattle.fault.specs.Fault.{◌if◌else◌}
 use Rattle.decimal.specs.Digits.{peeked}
 use Rattle.decimal.proofs.DigitLaws.{seen, seen_byte}
 use Rattle.dot.specs.Text.{is_blank}
-use Rattle.dot.specs.Plan.{Item, gap, num, one, byte, blank, item, plan}
-use Rattle.dot.specs.Reading.{Num, none, Gathered, ByteStep, stuck, at, to, halt, turned, take1, next, ended, fault}
+use Rattle.dot.specs.Plan.{Item, gap, one, byte, blank, item, plan}
+use Rattle.dot.specs.Reading.{none, Gathered, stuck, at, to, halt, turned, take1, next, ended, fault}
 use Rattle.drawing.specs.declared.Cursor.{Cursor}
 use Rattle.drawing.specs.Cursor.{from, reached, asked, Skipped, Followed}
 use Rattle.drawing.proofs.FromLaws.{from_byte, from-not}

@@ -1,5 +1,5 @@
 -- Lines of a drawing: what a reader knows where it stands.
-use Rattle.std.specs.Prelude.{◌≡◌, Bool, true, false, ◌||◌, List, [], ◌∷◌, ℕ, ◌+◌, ◌*◌, ◌≤◌, ◌<◌, length}
+use Rattle.std.specs.Prelude.{◌≡◌, true, false, ◌||◌, List, [], ◌∷◌, ℕ, ◌+◌, ◌≤◌, length}
 use Rattle.fault.specs.Fault.{◌if◌else◌}
 use Rattle.table.specs.Table.{records_bytes}
 use Rattle.ink.specs.Ink.{stored}

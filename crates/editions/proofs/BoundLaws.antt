@@ -1,13 +1,12 @@
 -- Every answer's numbers are small: refusals to 33, places to 64, and a moved table is no longer than the longest.
 use mathlib.Core.Path.{◌≡◌, refl}
-use mathlib.Core.Bool.{Bool, true, false, not}
+use mathlib.Core.Bool.{Bool, false, not}
 use mathlib.Core.List.{List}
 use Prim.Native.Nat.{ℕ, ◌+◌, ◌-◌, ◌≤◌}
 use native.Mathlib.Decide.{ℕ_discrete}
 use native.Mathlib.Omega.{arith}
 use lib.ListN.{length}
 use borrow.Author.Tests.{eq-eqb, ne_eqb}
-use Rattle.senders.specs.Tally.{some}
 use Rattle.fault.specs.declared.Verdict.{Verdict}
 use Rattle.fault.specs.Fault.{fine, refused, ◌if◌else◌, ◌▹◌, first_fault}
 use Rattle.fault.proofs.FaultLaws.{Clean, Within, if_passed, if_most, check_within, then_clean, then_within, first-within as firsts-within}
@@ -18,7 +17,7 @@ use Rattle.table.specs.Facts.{Sized}
 use Rattle.table.proofs.TableLaws.{well_formed, table-within, records_short}
 use Rattle.ink.proofs.GivenLaws.{GivenWithin, given-within}
 use Rattle.editions.specs.Moved.{moved_to}
-use Rattle.editions.specs.Entry.{divided_by, rule_divides, to_second_fault, to_first_fault, to_second_answer, to_first_answer}
+use Rattle.editions.specs.Entry.{rule_divides, to_second_fault, to_first_fault, to_second_answer, to_first_answer}
 use Rattle.editions.proofs.MovedLaws.{moved_length}
 use Rattle.editions.proofs.EntryLaws.{up-types, down-types}
 

@@ -9,7 +9,6 @@ use Rattle.engine.specs.Entry.{run_answer, run_words}
 use Rattle.translate.specs.Entry.{translate_answer, translate_bytes, translate_to_answer, translate_to_bytes}
 use Rattle.first_step.specs.declared.First.{First}
 use Rattle.first_step.specs.Entry.{first_answer}
-use Rattle.decimal.specs.Numbers.{text}
 use Rattle.service_log.specs.Lines.{fault_from}
 use Rattle.replay.specs.Entry.{replay_answer, replay_bytes, replay_words}
 use Rattle.drawing.specs.Entry.{draw_answer, draw_bytes, undraw_answer, undraw_bytes}

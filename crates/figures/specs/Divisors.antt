@@ -3,7 +3,6 @@ use Rattle.std.specs.Prelude.{List, [], ◌∷◌, ◌++◌, ℕ, ◌+◌, lengt
 use Rattle.threshold.specs.declared.Weights.{Weights}
 use Rattle.decimal.specs.Numbers.{text}
 use Rattle.first_step.specs.declared.First.{First}
-use Rattle.echo.specs.Echo.{echo}
 use Rattle.figures.specs.Case.{Case, comes_to, asks, reads, runs, translates_to, first_of, draws, undraws, schedule_in}
 
 abbrev weighs : ℕ → ℕ → ℕ → ℕ → Weights

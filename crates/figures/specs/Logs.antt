@@ -5,7 +5,7 @@ use Rattle.bundle.specs.Bundle.{steps_of}
 use Rattle.schedule.specs.Records.{steps_in}
 use Rattle.service_log.specs.Line.{log_of}
 use Rattle.echo.specs.Echo.{echo, five_steps, W}
-use Rattle.figures.specs.Case.{Case, runs, replays, judges, schedule_in, schedule}
+use Rattle.figures.specs.Case.{Case, replays, judges, schedule_in, schedule}
 use Rattle.figures.specs.Outline.{pair, pair_in, senders}
 
 -- W without its steps; a log of W's five lines with these senders; W's start with one step, and its words

@@ -1,5 +1,5 @@
 -- Figures of receipts and sends (Q-13), with the echo table.
-use Rattle.std.specs.Prelude.{List, [], ◌∷◌, ◌++◌, ℕ, replicate}
+use Rattle.std.specs.Prelude.{List, [], ◌∷◌, ◌++◌, ℕ}
 use Rattle.echo.specs.Echo.{echo, W, WCounting, WPlain}
 use Rattle.figures.specs.Case.{Case, counts, schedule_in, schedule}
 

@@ -1,20 +1,18 @@
 -- Sizes of a rule's record, by the edition: bounds from which `omega` goes on, and that the bytes of each type lie inside.
-use mathlib.Core.Path.{◌≡◌, refl, sym, ◌∙◌}
+use mathlib.Core.Path.{◌≡◌, sym, ◌∙◌}
 use mathlib.Core.Bool.{Bool, true, false, cond}
 use Prim.Native.Nat.{ℕ, ◌+◌, ◌-◌, ◌*◌, ◌≤◌, ◌<◌}
 use native.Mathlib.Nat.{mul-le-mul, mul-le-mul_left, mul-add, mul-one}
 use native.Mathlib.Omega.{arith}
 use mathlib.Core.List.{List}
-use lib.Dec.{leb}
-use borrow.Author.Tests.{leb-true, leb-false}
+use borrow.Author.Tests.{leb-true}
 use Rattle.senders.specs.Tally.{some}
 use Rattle.senders.proofs.TallyLaws.{some-not}
-use Rattle.fault.specs.Bytes.{byte_at}
 use Rattle.fault.specs.Tests.{outside}
 use Rattle.fault.specs.Fault.{◌if◌else◌}
 use Rattle.fault.proofs.TestLaws.{inside}
 use Rattle.threshold.specs.declared.Weights.{Weights}
-use Rattle.layout.specs.Layout.{second, second_of, types_in, end_bytes, type_bytes, weight_bytes, rule_bytes, most_types, most_divisor, weights_at, divisor_at, weights_of, divisor_outside, Divides}
+use Rattle.layout.specs.Layout.{second, second_of, types_in, end_bytes, type_bytes, weight_bytes, rule_bytes, most_divisor, weights_at, weights_of, divisor_outside, Divides}
 
 pub types_most : (byte : ℕ) → types_in byte ≤ byte
 unfolding types_in ◌if◌else◌

@@ -1,5 +1,5 @@
 -- The record of a rule: from, to, then for each type a, b, d (outline, "Bundle layout", rule), and in the second edition e (Q-7, "a fourth byte e").
-use Rattle.std.specs.Prelude.{◌≡◌, Bool, List, ℕ, ◌+◌, ◌-◌, ◌*◌, ◌≤◌, ◌<◌}
+use Rattle.std.specs.Prelude.{Bool, List, ℕ, ◌+◌, ◌-◌, ◌*◌, ◌≤◌, ◌<◌}
 use Rattle.fault.specs.Bytes.{byte_at}
 use Rattle.fault.specs.Tests.{◌at_least◌, outside}
 use Rattle.fault.specs.Fault.{◌if◌else◌}

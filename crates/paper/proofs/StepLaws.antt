@@ -17,7 +17,7 @@ use Rattle.fault.specs.Tests.{◌at_least◌}
 use Rattle.fault.specs.Fault.{◌if◌else◌}
 use Rattle.fault.proofs.FaultLaws.{if_passed, if_keeps, if_no, if_most}
 use Rattle.fault.proofs.TestLaws.{or-none, same}
-use Rattle.paper.specs.Paper.{Design, Interp, Conf, Step, newly, silent, Kind, silence, message, kind_of, Coming, CanHear, added, Moves, Stops, Steps, by_rule, by_stop, Same, stop_rule, is_stop, stopped_count}
+use Rattle.paper.specs.Paper.{Design, Interp, Conf, Step, newly, silent, Kind, silence, message, kind_of, Coming, CanHear, added, Moves, Steps, by_rule, by_stop, Same, stop_rule, is_stop, stopped_count}
 use Rattle.paper.specs.Words.{size, state, sent, hear, stop}
 use Rattle.paper.specs.Form.{wide, slot, bump, shown}
 use Rattle.paper.specs.Step.{column_of, rcvd_in, sent_in, stopped_in, view, count_of, receipt, heard, taken, out_of_range, malformed, not_coming, not_in_transit, not_met, take_fault, stop_fault, step_fault, stepped}

@@ -1,7 +1,5 @@
 -- The parts of a drawing, as they are put one after the other.
-use Rattle.std.specs.Prelude.{ℕ, ◌+◌, ◌*◌, ◌≡◌, List, [], ◌∷◌, length, set}
-use Rattle.fault.specs.Tests.{◌below◌}
-use Rattle.fault.specs.Fault.{◌if◌else◌}
+use Rattle.std.specs.Prelude.{ℕ, ◌+◌, ◌*◌, List, []}
 use Rattle.layout.specs.Layout.{weight_bytes, end_bytes}
 use Rattle.table.specs.Table.{types_byte, most_states, most_rules, rule_at}
 use Rattle.decimal.specs.Numbers.{text}

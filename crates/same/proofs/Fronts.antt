@@ -1,28 +1,25 @@
 -- A table in front of a schedule part is as one beside it: the trailer and the parts after the front are the same bytes.
-use mathlib.Core.Path.{◌≡◌, refl, sym, ap, ap₂, ◌∙◌}
+use mathlib.Core.Path.{◌≡◌, refl, sym, ap, ◌∙◌}
 use mathlib.Core.List.{List, ◌++◌}
-use Prim.Native.Nat.{ℕ, ◌+◌, ◌-◌, ◌*◌, ◌%◌, ◌≤◌, ◌<◌}
+use Prim.Native.Nat.{ℕ, ◌+◌, ◌-◌, ◌*◌, ◌%◌, ◌≤◌}
 use native.Mathlib.Omega.{arith}
 use lib.ListN.{length, take, drop, length-append}
 use lib.Seq.{take_at, drop_at, drop-drop, get_or-append-add}
 use borrow.Author.Tests.{le-ltb}
 use Rattle.senders.specs.Set.{most_boards}
-use Rattle.fault.specs.declared.Verdict.{Verdict}
 use Rattle.fault.specs.Bytes.{byte_at, u16_at, trailer_bytes, trailer_of, step_bytes, most_step_bytes}
-use Rattle.fault.specs.Tests.{◌below◌, ◌over◌, ◌at_most◌, ◌differs◌, outside}
+use Rattle.fault.specs.Tests.{◌over◌, ◌at_most◌, ◌differs◌, outside}
 use Rattle.fault.specs.Fault.{refused, ◌if◌else◌, ◌▹◌, first_fault}
-use mathlib.Core.Bool.{false, ◌||◌}
+use mathlib.Core.Bool.{◌||◌}
 use Rattle.table.specs.Table.{rules_of, types_of, factor_of}
 use Rattle.table.specs.Refusals.{table_fault}
-use Rattle.bundle.specs.Bundle.{step_distance, start_distance, n_of, t_of, f_of, form_of, level_of, correct_of, front_length, table_in_use, starts_of, steps_at, steps_of, most_form}
-use Rattle.bundle.specs.Refusals.{no_trailer, out_of_bundle, not_admitted, steps_off, start_fault, schedule_fault, fault_with, read_fault}
+use Rattle.bundle.specs.Bundle.{start_distance, level_of, correct_of, front_length, table_in_use, starts_of, steps_at, steps_of, most_form}
+use Rattle.bundle.specs.Refusals.{no_trailer, out_of_bundle, not_admitted, steps_off, start_fault, schedule_fault, fault_with}
 use Rattle.bundle.proofs.BundleLaws.{use_standing, use_front}
 use Rattle.paper.specs.Form.{wide}
 use Rattle.schedule.specs.Records.{steps_in}
-use Rattle.words.specs.declared.Sizes.{Sizes}
 use Rattle.rules.specs.Design.{design_of}
-use Rattle.engine.specs.Design.{sizes_of, design_with, sizes_in, design_in}
-use Rattle.engine.specs.Entry.{schedule_of}
+use Rattle.engine.specs.Design.{sizes_of, design_with}
 use Rattle.same.specs.Same.{SameRun}
 use Rattle.same.proofs.Runs.{ran_by_lem}
 

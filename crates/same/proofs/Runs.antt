@@ -1,28 +1,18 @@
 -- What a run looks at determines what the calls answer and leave; and a table in front of a schedule is as one beside it.
 use mathlib.Core.Path.{◌≡◌, refl, sym, ap, ◌∙◌}
-use mathlib.Core.Bool.{true, false}
-use mathlib.Core.List.{List, [], ◌++◌}
-use Prim.Native.Nat.{ℕ, ◌+◌, ◌-◌, ◌*◌, ◌≤◌, ◌<◌}
-use native.Mathlib.Omega.{arith}
-use lib.ListN.{length, take, drop, length-append}
-use lib.Seq.{take_at, drop_at, get_or-append-add}
-use borrow.Author.Tests.{eq-eqb, ne_eqb, lt-ltb, le-ltb}
-use Rattle.fault.specs.declared.Verdict.{Verdict}
-use Rattle.fault.specs.declared.Answer.{Answer}
-use Rattle.fault.specs.Bytes.{byte_at, u16_at, trailer_bytes, trailer_of}
+use mathlib.Core.List.{List, ◌++◌}
+use Prim.Native.Nat.{ℕ, ◌*◌}
+use lib.ListN.{length, drop}
 use Rattle.fault.specs.Tests.{◌below◌, ◌differs◌}
 use Rattle.fault.specs.Fault.{refused, nothing_done, ◌if◌else◌}
 use Rattle.fault.proofs.FaultLaws.{Clean}
-use Rattle.table.specs.Table.{rules_of, types_of}
 use Rattle.table.specs.Refusals.{table_fault}
-use Rattle.bundle.specs.Bundle.{step_distance, start_distance, n_of, t_of, f_of, form_of, level_of, correct_of, front_length, table_in_use, starts_of, steps_at, steps_of}
-use Rattle.bundle.specs.Refusals.{no_trailer, out_of_bundle, not_admitted, steps_off, start_fault, schedule_fault, fault_with, read_fault}
-use Rattle.bundle.proofs.BundleLaws.{use_standing, use_front}
-use Rattle.paper.specs.Paper.{Design, Step}
+use Rattle.bundle.specs.Bundle.{t_of, f_of, form_of, level_of, correct_of, front_length, starts_of}
+use Rattle.bundle.specs.Refusals.{fault_with}
+use Rattle.bundle.proofs.BundleLaws.{use_standing}
 use Rattle.paper.specs.Words.{start}
 use Rattle.paper.specs.Form.{wide}
-use Rattle.paper.specs.Run.{Ran, run}
-use Rattle.schedule.specs.Records.{steps_in}
+use Rattle.paper.specs.Run.{run}
 use Rattle.words.specs.declared.Sizes.{Sizes}
 use Rattle.words.specs.Words.{room_of}
 use Rattle.rules.specs.Design.{design_of}

@@ -1,29 +1,26 @@
 -- Tables that say the same are refused the same records, are read the same beside a bundle, and have one design: each test and each part of the design
 -- looks only at what both say.
 use mathlib.Core.Path.{◌≡◌, refl, sym, ap, ap₂, ◌∙◌}
-use mathlib.Core.Bool.{Bool, true, false, not, ◌&&◌, ◌||◌}
+use mathlib.Core.Bool.{Bool, not, ◌&&◌, ◌||◌}
 use mathlib.Core.List.{List}
-use Prim.Native.Nat.{ℕ, zero, suc, ◌+◌, ◌*◌, ◌^◌, ◌≤◌, ◌<◌}
+use Prim.Native.Nat.{ℕ, zero, suc, ◌+◌, ◌<◌}
 use native.Mathlib.Decide.{dec_lt}
 use native.Mathlib.Omega.{arith}
-use borrow.Author.Tests.{lt-ltb, le-ltb, lt-leb, le-leb}
+use borrow.Author.Tests.{lt-ltb, le-ltb, le-leb}
 use Rattle.senders.specs.Tally.{count, some}
 use Rattle.senders.specs.Set.{mem, missing}
-use Rattle.senders.proofs.TallyLaws.{count_same}
-use Rattle.fault.specs.declared.Verdict.{Verdict}
 use Rattle.fault.specs.Bytes.{byte_at}
 use Rattle.fault.specs.Tests.{◌below◌, ◌over◌, ◌at_least◌, outside}
-use Rattle.fault.specs.Fault.{fine, verdict, refused, ◌if◌else◌, ◌▹◌, first_fault}
+use Rattle.fault.specs.Fault.{refused, ◌if◌else◌, ◌▹◌, first_fault}
 use Rattle.fault.proofs.FaultLaws.{Clean, then_pass}
 use Rattle.threshold.specs.declared.Weights.{Weights}
 use Rattle.threshold.specs.Threshold.{threshold_of, met_by}
-use Rattle.layout.specs.Layout.{types_in, divisor_outside, most_divisor}
-use Rattle.table.specs.Table.{states_of, rules_of, types_byte, types_of, factor_of, flags_of, initial_of, sent_of, from_of, to_of, rule_of, weights_for}
+use Rattle.layout.specs.Layout.{divisor_outside, most_divisor}
+use Rattle.table.specs.Table.{states_of, rules_of, types_byte, types_of, initial_of, sent_of, from_of, to_of, rule_of}
 use Rattle.table.specs.Refusals.{state_off, no_initial, no_state, divisor_off, forgets, sends_two, state_fault, rule_fault, records_fault, table_fault}
 use Rattle.table.specs.Facts.{RuleEnds, WellFormed}
 use Rattle.bundle.specs.Bundle.{correct_of, starts_of}
 use Rattle.bundle.specs.Refusals.{no_trailer, out_of_bundle, not_admitted, steps_off, not_initial, start_fault, schedule_fault, fault_with}
-use Rattle.paper.specs.Paper.{Design}
 use Rattle.words.specs.declared.Sizes.{Sizes}
 use Rattle.rules.specs.Design.{met_at, design_of}
 use Rattle.same.specs.Same.{SameTable}

@@ -1,5 +1,5 @@
 -- What a table that is not refused gives to the stages above, as named facts. They follow from `table_fault`: proofs/TableLaws.antt.
-use Rattle.std.specs.Prelude.{◌≡◌, true, false, List, ℕ, ◌+◌, ◌*◌, ◌^◌, ◌≤◌, ◌<◌, length}
+use Rattle.std.specs.Prelude.{◌≡◌, true, false, List, ℕ, ◌+◌, ◌^◌, ◌≤◌, ◌<◌, length}
 use Rattle.senders.specs.Tally.{count, some}
 use Rattle.senders.specs.Set.{missing}
 use Rattle.fault.specs.Bytes.{trailer_bytes}

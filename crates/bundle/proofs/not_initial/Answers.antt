@@ -1,5 +1,4 @@
 -- A start that is no state is refused before its flags would be looked up; any other is refused by its flag.
-use borrow.Author.Rules.{rules}
 use Rattle.bundle.proofs.BundleLaws.{start_outside, start-inside}
 use Rattle.bundle.proofs.not_initial.Goals as goal
 

@@ -1,5 +1,4 @@
 -- The table in use is handed to `fault_with`, as in the definition.
-use borrow.Author.Rules.{rules}
 use Rattle.bundle.proofs.read_fault.Goals as goal
 
 pub returns : goal.returns

@@ -1,5 +1,4 @@
 -- 14 where the start byte is no initial state and 0 else, as in `start_fault`.
-use borrow.Author.Rules.{rules}
 use Rattle.bundle.proofs.BundleLaws.{start-wrong, start_right}
 use Rattle.bundle.proofs.start_fault.Goals as goal
 

@@ -1,9 +1,7 @@
 -- The loop keeps that no board before i has a start at fault, so the first that it finds is the lowest.
 use mathlib.Core.Path.{◌≡◌}
 use Prim.Native.Nat.{◌≤◌, ◌-◌}
-use borrow.Author.Rules.{rules}
 use Rattle.bundle.specs.Refusals.{start_fault}
-use Rattle.fault.proofs.FaultLaws.{first-none, first_found, first_more, first-never}
 use Rattle.fault.specs.Fault.{fine, first_fault}
 use Rattle.bundle.proofs.starts_fault.Given as goal
 

@@ -1,5 +1,4 @@
 -- What is cut after the start bytes, as long as the trailer says, is `steps_of`; it ends where the trailer begins.
-use borrow.Author.Rules.{rules}
 use Rattle.bundle.proofs.BundleLaws.{steps_are}
 use Rattle.bundle.proofs.steps.Goals as goal
 

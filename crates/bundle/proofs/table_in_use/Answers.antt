@@ -1,7 +1,6 @@
 -- By the length of the front: empty leaves the standing table, and any other is cut from the bundle's first bytes.
 use mathlib.Core.Path.{sym}
 use native.Mathlib.Omega.{arith}
-use borrow.Author.Rules.{rules}
 use lib.Seq.{length-take-le}
 use Rattle.bundle.proofs.BundleLaws.{use_standing, use_front}
 use Rattle.bundle.proofs.table_in_use.Goals as goal

@@ -1,5 +1,4 @@
 -- Refusal and count are kept and the place is shortened: the definition's three fields.
-use borrow.Author.Rules.{rules}
 use Rattle.capi.proofs.PackedLaws.{capped_by}
 use Rattle.capi.proofs.cap.Goals as goal
 

@@ -1,5 +1,4 @@
 -- Every answer of a check fits its bits, so that it can be packed.
-use borrow.Author.Rules.{rules}
 use Rattle.capi.proofs.PackedLaws.{list_fits_by, packed_by}
 use Rattle.capi.proofs.macaroosh_check_list.Goals as goal
 

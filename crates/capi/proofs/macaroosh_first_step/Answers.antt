@@ -1,5 +1,4 @@
 -- Every first step and refusal fits its bits, so that it can be packed.
-use borrow.Author.Rules.{rules}
 use Rattle.capi.proofs.PackedLaws.{first-fits_by, packed-first_by}
 use Rattle.capi.proofs.macaroosh_first_step.Goals as goal
 

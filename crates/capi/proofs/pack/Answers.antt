@@ -1,6 +1,5 @@
 -- The three numbers fit their bits, so that no sum is over 64 bits.
 use native.Mathlib.Omega.{arith}
-use borrow.Author.Rules.{rules}
 use Rattle.capi.proofs.pack.Goals as goal
 
 pub returns : goal.returns

@@ -1,5 +1,4 @@
 -- Each kind of answer goes to its own sum; a matched answer is the one that came in, so its numbers fit as that one's do.
-use borrow.Author.Rules.{rules}
 use Rattle.capi.proofs.PackedLaws.{told-fits, told-packed}
 use Rattle.capi.proofs.pack_first.Goals as goal
 

@@ -1,6 +1,5 @@
 -- The run's words are summed where they are.
 use mathlib.Core.Path.{ap, ◌∙◌}
-use borrow.Author.Rules.{rules}
 use Rattle.counted.specs.declared.Counted.{Counted}
 use Rattle.counted.proofs.count_in.Goals as goal
 

@@ -1,13 +1,8 @@
 -- The counts of the types below m are summed; each is small.
 use mathlib.Core.Path.{◌≡◌}
 use Prim.Native.Nat.{◌*◌, ◌-◌, ◌≤◌}
-use native.Mathlib.Omega.{arith}
-use borrow.Author.Rules.{rules}
 use Rattle.words.specs.Words.{count_in}
-use Rattle.words.specs.Facts.{at_end, in_step}
-use Rattle.words.proofs.KeepLaws.{holds_more}
 use Rattle.receipts.specs.Receipts.{sum_below}
-use Rattle.counted.proofs.SumLaws.{sum-begins, sum_goes, sum-ends}
 use Rattle.counted.proofs.of_board.Given as goal
 
 abbrev pub invariant-loop-m : goal.invariant-loop-m

@@ -1,11 +1,8 @@
 -- What the boards below p have received is summed; each has little.
 use mathlib.Core.Path.{◌≡◌}
 use Prim.Native.Nat.{◌*◌, ◌-◌, ◌≤◌}
-use native.Mathlib.Omega.{arith}
-use borrow.Author.Rules.{rules}
 use Rattle.receipts.specs.Receipts.{sum_below}
 use Rattle.counted.specs.Sums.{board_in}
-use Rattle.counted.proofs.SumLaws.{sum-begins, sum_goes, sum-ends}
 use Rattle.counted.proofs.received.Given as goal
 
 abbrev pub invariant-loop-p : goal.invariant-loop-p

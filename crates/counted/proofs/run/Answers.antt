@@ -1,5 +1,4 @@
 -- Room for the rules is made, and the run is in it.
-use borrow.Author.Rules.{rules}
 use mathlib.Core.Path.{refl}
 use Rattle.counted.proofs.run.Goals as goal
 

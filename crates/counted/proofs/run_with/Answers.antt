@@ -1,6 +1,5 @@
 -- The entry's three ways, as those of a run; with the run the two numbers are those of its words.
 use mathlib.Core.Path.{sym, ap, ◌∙◌}
-use borrow.Author.Rules.{rules}
 use lib.ListN.{length}
 use lib.Seq.{length-take-le}
 use Rattle.words.specs.Words.{room_of}

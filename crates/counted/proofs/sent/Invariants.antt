@@ -1,11 +1,8 @@
 -- The sent counts of the types below m are summed; each is small.
 use mathlib.Core.Path.{◌≡◌}
 use Prim.Native.Nat.{◌*◌, ◌-◌, ◌≤◌}
-use native.Mathlib.Omega.{arith}
-use borrow.Author.Rules.{rules}
 use Rattle.words.specs.Words.{sent_count_in}
 use Rattle.receipts.specs.Receipts.{sum_below}
-use Rattle.counted.proofs.SumLaws.{sum-begins, sum_goes, sum-ends, sent-small}
 use Rattle.counted.proofs.sent.Given as goal
 
 abbrev pub invariant-loop-m : goal.invariant-loop-m

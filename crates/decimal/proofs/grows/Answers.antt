@@ -1,5 +1,4 @@
 -- A byte that is no digit never goes on with a number, and for a digit the two tests are those of `goes_on`.
-use borrow.Author.Rules.{rules}
 use Rattle.decimal.proofs.DigitLaws.{digit-least, goes-on-digit, goes-on-other}
 use Rattle.decimal.proofs.grows.Goals as goal
 

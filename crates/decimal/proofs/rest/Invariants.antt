@@ -1,9 +1,7 @@
 -- The loop keeps that the number so far, before what is left, comes to the same; each turn takes a byte of the text.
 use Prim.Native.Nat.{◌-◌}
 use lib.ListN.{length}
-use native.Mathlib.Omega.{arith}
-use borrow.Author.Rules.{rules}
-use Rattle.decimal.proofs.DigitLaws.{Growing, grows_none, grows-next, grows-more, grows_all}
+use Rattle.decimal.proofs.DigitLaws.{Growing}
 use Rattle.decimal.proofs.rest.Given as goal
 
 abbrev pub invariant-loop-w : goal.invariant-loop-w

@@ -1,6 +1,4 @@
 -- The trailer goes where the records end; that is far below the last place.
-use native.Mathlib.Omega.{arith}
-use borrow.Author.Rules.{rules}
 use Rattle.drawing.proofs.close.Goals as goal
 
 pub returns : goal.returns

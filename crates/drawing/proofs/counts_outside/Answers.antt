@@ -1,5 +1,4 @@
 -- The table's test, at the number of types that the byte says.
-use borrow.Author.Rules.{rules}
 use Rattle.drawing.proofs.counts_outside.Goals as goal
 
 pub returns : goal.returns

@@ -1,6 +1,4 @@
 -- A refused table, too few bytes lent and enough of them are the three cases of `given` and `left`.
-use native.Mathlib.Omega.{arith}
-use borrow.Author.Rules.{rules}
 use Rattle.ink.proofs.GivenLaws.{gave_refused, gave_short, gave_all}
 use Rattle.drawing.proofs.give.Goals as goal
 

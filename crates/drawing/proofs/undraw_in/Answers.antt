@@ -2,7 +2,6 @@
 use mathlib.Core.Path.{refl, sym, ◌∙◌}
 use lib.Seq.{length-take-le}
 use native.Mathlib.Omega.{arith}
-use borrow.Author.Rules.{rules}
 use Rattle.table.proofs.TableLaws.{counts_by}
 use Rattle.drawing.proofs.EntryLaws.{few_records, table-room, undrew_stuck, undrew_outside, undrew_table}
 use Rattle.drawing.proofs.undraw_in.Goals as goal

@@ -1,11 +1,6 @@
 -- The loop keeps that every e before m is 1: one that is not ends it, and past the last type there is none.
-use mathlib.Core.Bool.{false}
-use mathlib.Core.Path.{◌≡◌}
-use Prim.Native.Nat.{◌≤◌, ◌-◌}
 use borrow.Author.Rules.{rules}
 use Rattle.senders.proofs.TallyLaws.{some-none, some_more, some-found, some-never}
-use Rattle.senders.specs.Tally.{some}
-use Rattle.editions.specs.Entry.{divided_by}
 use Rattle.editions.proofs.divides.Goals as goal
 
 pub loop-m-init : goal.loop-m-init

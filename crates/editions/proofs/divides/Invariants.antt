@@ -2,8 +2,6 @@
 use mathlib.Core.Bool.{false}
 use mathlib.Core.Path.{◌≡◌}
 use Prim.Native.Nat.{◌≤◌, ◌-◌}
-use borrow.Author.Rules.{rules}
-use Rattle.senders.proofs.TallyLaws.{some-none, some_more, some-found, some-never}
 use Rattle.senders.specs.Tally.{some}
 use Rattle.editions.specs.Entry.{divided_by}
 use Rattle.editions.proofs.divides.Given as goal

@@ -1,5 +1,4 @@
 -- The divisor that is tested is that of the weights of type m.
-use borrow.Author.Rules.{rules}
 use Rattle.editions.proofs.EntryLaws.{divided-is}
 use Rattle.editions.proofs.divides_at.Goals as goal
 

@@ -1,7 +1,6 @@
 -- The bytes needed are those of the moved table: too few lent and enough of them are two cases of `given` and `left`.
 use mathlib.Core.Path.{refl}
 use native.Mathlib.Omega.{arith}
-use borrow.Author.Rules.{rules}
 use Rattle.ink.proofs.GivenLaws.{gave_short, gave_all}
 use Rattle.editions.specs.Moved.{moved_to}
 use Rattle.editions.proofs.MovedLaws.{bytes-needed}

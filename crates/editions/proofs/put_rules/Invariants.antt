@@ -1,14 +1,10 @@
 -- The loop keeps that the records of the rules still left, put from here on, come to all records from n on. Each takes at most 1,024 bytes, and a table has at most 64.
-use mathlib.Core.Path.{◌≡◌, refl}
+use mathlib.Core.Path.{◌≡◌}
 use Prim.Native.Nat.{◌+◌, ◌*◌, ◌-◌, ◌≤◌}
-use native.Mathlib.Omega.{arith}
-use borrow.Author.Rules.{rules}
 use lib.ListN.{length}
 use Rattle.table.specs.Table.{rules_of}
-use Rattle.table.proofs.RecordLaws.{record_long}
-use Rattle.ink.proofs.InkLaws.{RestPut, rest_all}
+use Rattle.ink.proofs.InkLaws.{RestPut}
 use Rattle.editions.specs.Moved.{rules_from}
-use Rattle.editions.proofs.MovedLaws.{rules-first, rules-turn, rules-end}
 use Rattle.editions.proofs.put_rules.Given as goal
 
 abbrev pub invariant-loop-r : goal.invariant-loop-r

@@ -1,12 +1,8 @@
 -- The loop keeps that what is said of the types still left, put from here on, comes to what is said of all from n on. Each takes at most 4 bytes.
-use mathlib.Core.Path.{◌≡◌, refl}
-use Prim.Native.Nat.{◌+◌, ◌*◌, ◌-◌, ◌≤◌}
+use mathlib.Core.Path.{refl}
 use native.Mathlib.Omega.{arith}
 use borrow.Author.Rules.{rules}
-use lib.ListN.{length}
-use Rattle.layout.specs.Layout.{types_in}
-use Rattle.ink.proofs.InkLaws.{RestPut, rest_all}
-use Rattle.editions.specs.Moved.{types_from}
+use Rattle.ink.proofs.InkLaws.{rest_all}
 use Rattle.editions.proofs.MovedLaws.{types-first, types-turn, types-end}
 use Rattle.editions.proofs.put_types.Goals as goal
 

@@ -1,7 +1,6 @@
 -- The starts in front of zeros are the first configuration.
 use mathlib.Core.Path.{ap, sym, ◌∙◌, subst⁻¹}
 use native.Mathlib.Omega.{arith}
-use borrow.Author.Rules.{rules}
 use lib.ListN.{length, length-replicate}
 use Rattle.words.specs.Facts.{Holds}
 use Rattle.engine.proofs.RunLaws.{boards-fit, begun, first_holds}

@@ -1,9 +1,7 @@
 -- The words below i are 0; at the end these are all words.
-use mathlib.Core.Path.{◌≡◌, refl, sym, ◌∙◌}
-use Prim.Native.Nat.{ℕ, ◌-◌, ◌≤◌, ◌<◌}
+use mathlib.Core.Path.{refl, sym, ◌∙◌}
 use native.Mathlib.Omega.{arith}
-use borrow.Author.Rules.{rules}
-use lib.ListN.{length, get_or, replicate, length-set, length-replicate, get_or-replicate}
+use lib.ListN.{length, replicate, length-set, length-replicate, get_or-replicate}
 use lib.Seq.{ext_get_or}
 use Rattle.fault.proofs.FillLaws.{fills}
 use Rattle.engine.proofs.clear.Goals as goal

@@ -1,7 +1,6 @@
 -- A refusal of reading is given on; otherwise the table in use gives numbers and rules, which stand for its design.
 use mathlib.Core.Path.{refl, sym, ap, ◌∙◌}
 use native.Mathlib.Omega.{arith}
-use borrow.Author.Rules.{rules}
 use Rattle.words.specs.declared.Sizes.{Sizes}
 use Rattle.engine.proofs.EntryLaws.{suits, opens_refused, opens_read, opens_ready}
 use Rattle.engine.proofs.open.Goals as goal

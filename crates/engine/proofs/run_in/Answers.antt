@@ -1,6 +1,5 @@
 -- The first configuration is made from the starts, and the steps are run from it; both are the bundle's own.
 use mathlib.Core.Path.{ap, ◌∙◌}
-use borrow.Author.Rules.{rules}
 use Rattle.paper.specs.Run.{Ran}
 use Rattle.engine.specs.Entry.{ran_answer}
 use Rattle.engine.proofs.EntryLaws.{starts_long, whole_steps, parts_run}

@@ -1,12 +1,11 @@
 -- After i turns the run is the run of what is left; a refused step and the end of the schedule are its two ends.
 use mathlib.Core.Path.{◌∙◌}
-use Prim.Native.Nat.{◌+◌, ◌*◌, ◌/◌, ◌-◌, ◌≤◌}
+use Prim.Native.Nat.{◌+◌, ◌*◌, ◌/◌}
 use native.Mathlib.Omega.{arith}
-use borrow.Author.Rules.{rules}
 use lib.ListN.{length}
 use Rattle.words.specs.Facts.{at_rest}
 use Rattle.words.proofs.KeepLaws.{holds_more}
-use Rattle.engine.proofs.RunLaws.{SoFar, so_far_none, so_far_more, ends-refused, ends_all}
+use Rattle.engine.proofs.RunLaws.{so_far_none, so_far_more, ends-refused, ends_all}
 use Rattle.engine.proofs.run_steps.Goals as goal
 
 pub loop-i-init : goal.loop-i-init

@@ -1,6 +1,5 @@
 -- The entry's three ways: what reading refuses, 30, and the run in as many words as the bundle needs.
 use mathlib.Core.Path.{sym, ap, ◌∙◌}
-use borrow.Author.Rules.{rules}
 use lib.Seq.{length-take-le}
 use Rattle.words.specs.Words.{room_of}
 use Rattle.engine.proofs.EntryLaws.{opens_unread, opens_clean, nothing_done_lem, enter-refused, enter-short, enter_run, ready_parts, ready-answer, ready_words}

@@ -1,10 +1,8 @@
 -- The loop keeps that putting the rest of the word from here on comes to putting all of it from n on.
-use mathlib.Core.Path.{◌≡◌, refl}
-use Prim.Native.Nat.{◌+◌, ◌-◌, ◌≤◌}
+use mathlib.Core.Path.{refl}
 use native.Mathlib.Omega.{arith}
 use borrow.Author.Rules.{rules}
-use lib.ListN.{length, drop}
-use Rattle.ink.proofs.InkLaws.{RestPut, rest_all, word_more, word_over}
+use Rattle.ink.proofs.InkLaws.{rest_all, word_more, word_over}
 use Rattle.ink.proofs.put_all.Goals as goal
 
 pub loop-i-init : goal.loop-i-init

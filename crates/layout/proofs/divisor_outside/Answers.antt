@@ -1,11 +1,6 @@
 -- The loop keeps that no divisor before m is outside: one that is ends it, and past the last type there is none.
-use mathlib.Core.Bool.{false}
-use mathlib.Core.Path.{◌≡◌}
-use Prim.Native.Nat.{◌≤◌, ◌-◌}
 use borrow.Author.Rules.{rules}
 use Rattle.senders.proofs.TallyLaws.{some-none, some_more, some-found, some-never}
-use Rattle.senders.specs.Tally.{some}
-use Rattle.layout.specs.Layout.{divisor_outside}
 use Rattle.layout.proofs.divisor_outside.Goals as goal
 
 pub loop-m-init : goal.loop-m-init

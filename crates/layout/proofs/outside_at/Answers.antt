@@ -1,5 +1,4 @@
 -- The divisor that is tested is that of the weights of type m.
-use borrow.Author.Rules.{rules}
 use Rattle.layout.proofs.LayoutLaws.{outside-is}
 use Rattle.layout.proofs.outside_at.Goals as goal
 

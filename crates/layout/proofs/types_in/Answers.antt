@@ -1,7 +1,5 @@
 -- Each branch is one of `types_in`.
-use native.Mathlib.Omega.{arith}
 use borrow.Author.Rules.{rules}
-use borrow.Author.Tests.{leb-true}
 use Rattle.fault.proofs.FaultLaws.{if_yes, if_no}
 use Rattle.layout.specs.Layout.{types_in}
 use Rattle.layout.proofs.LayoutLaws.{second-at-least}

@@ -1,5 +1,4 @@
 -- The product of both numbers; a types byte is below 256.
-use borrow.Author.Rules.{rules}
 use Rattle.layout.proofs.LayoutLaws.{weight_bytes_are, weight_bytes-few}
 use Rattle.layout.proofs.weight_bytes.Goals as goal
 

@@ -1,5 +1,4 @@
 -- By the number of digits: one, two or three, put from the first to the last.
-use borrow.Author.Rules.{rules}
 use native.Mathlib.Omega.{arith}
 use Rattle.pen.proofs.NumberLaws.{put-one-digit, put-two-digits, put-three-digits}
 use Rattle.pen.proofs.put_decimal.Goals as goal

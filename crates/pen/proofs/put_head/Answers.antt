@@ -1,5 +1,4 @@
 -- The head's tokens with the two numbers between them, as `head_text` writes them.
-use borrow.Author.Rules.{rules}
 use native.Mathlib.Omega.{arith}
 use Rattle.pen.proofs.PartLaws.{head_put}
 use Rattle.pen.proofs.put_head.Goals as goal

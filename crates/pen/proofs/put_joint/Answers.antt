@@ -1,5 +1,4 @@
 -- By the number's place: nothing before the first, a comma and a blank where a group begins, else a blank.
-use borrow.Author.Rules.{rules}
 use native.Mathlib.Omega.{arith}
 use Rattle.pen.proofs.NumberLaws.{put-joint-none, put-joint_group, joint-blank}
 use Rattle.pen.proofs.put_joint.Goals as goal

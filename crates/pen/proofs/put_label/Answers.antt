@@ -1,5 +1,4 @@
 -- What opens the label, its numbers, what closes it: three puts, whose sum is `labelled`.
-use borrow.Author.Rules.{rules}
 use native.Mathlib.Omega.{arith}
 use Rattle.pen.proofs.PartLaws.{label-put}
 use Rattle.pen.proofs.put_label.Goals as goal

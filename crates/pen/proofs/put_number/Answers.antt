@@ -1,5 +1,4 @@
 -- What joins it and the number itself, one put after the other.
-use borrow.Author.Rules.{rules}
 use native.Mathlib.Omega.{arith}
 use Rattle.ink.proofs.InkLaws.{put_then}
 use Rattle.pen.proofs.put_number.Goals as goal

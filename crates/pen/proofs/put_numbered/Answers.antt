@@ -1,5 +1,4 @@
 -- The word and the number, one put after the other.
-use borrow.Author.Rules.{rules}
 use native.Mathlib.Omega.{arith}
 use Rattle.ink.proofs.InkLaws.{put_then}
 use Rattle.pen.proofs.put_numbered.Goals as goal

@@ -1,17 +1,11 @@
 -- The loop keeps that putting the numbers still left comes to putting all of them, and the place in its group of the next. Each takes at most 6 bytes:
 -- two to join, four for the number.
-use mathlib.Core.Path.{◌≡◌, refl}
+use mathlib.Core.Path.{◌≡◌}
 use Prim.Native.Nat.{◌+◌, ◌*◌, ◌%◌, ◌≤◌}
-use native.Mathlib.Omega.{arith}
-use borrow.Author.Rules.{rules}
 use lib.ListN.{length}
-use Rattle.fault.specs.Bytes.{byte_at}
 use Rattle.dot.specs.Text.{numbers_text}
-use Rattle.dot.proofs.ShapeLaws.{place-first, place-next, place-below}
 use Rattle.pen.specs.Pen.{alone}
-use Rattle.ink.proofs.InkLaws.{RestPut, rest_all}
-use Rattle.pen.proofs.TextLaws.{numbers-first}
-use Rattle.pen.proofs.PartLaws.{numbers-turn, put-numbers-end}
+use Rattle.ink.proofs.InkLaws.{RestPut}
 use Rattle.pen.proofs.put_numbers.Given as goal
 
 abbrev pub invariant-loop-left : goal.invariant-loop-left

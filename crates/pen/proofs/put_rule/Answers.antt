@@ -1,5 +1,4 @@
 -- The two names and the label of all weights, one put after the other.
-use borrow.Author.Rules.{rules}
 use native.Mathlib.Omega.{arith}
 use Rattle.pen.proofs.PartLaws.{rule-put}
 use Rattle.pen.proofs.put_rule.Goals as goal

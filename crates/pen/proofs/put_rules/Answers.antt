@@ -1,13 +1,8 @@
 -- The loop keeps that the lines of the rules still left, put from here on, come to all lines from n on.
-use mathlib.Core.Path.{◌≡◌, refl}
-use Prim.Native.Nat.{◌+◌, ◌*◌, ◌-◌, ◌≤◌}
+use mathlib.Core.Path.{refl}
 use native.Mathlib.Omega.{arith}
 use borrow.Author.Rules.{rules}
-use lib.ListN.{length}
-use Rattle.table.specs.Table.{states_of, rules_of, types_byte, rule_at, state_bytes}
-use Rattle.dot.specs.Text.{rules_text}
-use Rattle.pen.specs.Pen.{alone, most_rule_text}
-use Rattle.ink.proofs.InkLaws.{RestPut, rest_all}
+use Rattle.ink.proofs.InkLaws.{rest_all}
 use Rattle.pen.proofs.TextLaws.{rules-first}
 use Rattle.pen.proofs.PartLaws.{rules-turn, rules-end}
 use Rattle.pen.proofs.put_rules.Goals as goal

@@ -1,5 +1,4 @@
 -- Below 128 the byte is its own number; from there on it is a minus and 256 less the byte.
-use borrow.Author.Rules.{rules}
 use native.Mathlib.Omega.{arith}
 use Rattle.pen.proofs.NumberLaws.{signed-plain, signed-minus}
 use Rattle.pen.proofs.put_signed.Goals as goal

@@ -1,5 +1,4 @@
 -- The sign's test picks the spelling.
-use borrow.Author.Rules.{rules}
 use native.Mathlib.Omega.{arith}
 use Rattle.pen.proofs.NumberLaws.{spelt_plain, spelt_signed}
 use Rattle.pen.proofs.put_spelt.Goals as goal

@@ -1,15 +1,11 @@
 -- The loop keeps that the lines of the states still left, put from here on, come to all lines from n on.
-use mathlib.Core.Path.{◌≡◌, refl}
+use mathlib.Core.Path.{◌≡◌}
 use Prim.Native.Nat.{◌+◌, ◌*◌, ◌-◌, ◌≤◌}
-use native.Mathlib.Omega.{arith}
-use borrow.Author.Rules.{rules}
 use lib.ListN.{length}
 use Rattle.table.specs.Table.{states_of}
 use Rattle.dot.specs.Text.{states_text}
 use Rattle.pen.specs.Pen.{alone, most_state_text}
-use Rattle.ink.proofs.InkLaws.{RestPut, rest_all}
-use Rattle.pen.proofs.TextLaws.{states_first}
-use Rattle.pen.proofs.PartLaws.{states-turn, states-end}
+use Rattle.ink.proofs.InkLaws.{RestPut}
 use Rattle.pen.proofs.put_states.Given as goal
 
 abbrev pub invariant-loop-i : goal.invariant-loop-i

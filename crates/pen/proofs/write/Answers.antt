@@ -1,5 +1,4 @@
 -- Head, states, rules and the last line, one put after the other, are the drawing; their bounds add up to `most_drawing`.
-use borrow.Author.Rules.{rules}
 use native.Mathlib.Omega.{arith}
 use Rattle.pen.proofs.PartLaws.{drawing-put, put_whole}
 use Rattle.pen.proofs.write.Goals as goal

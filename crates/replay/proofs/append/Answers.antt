@@ -5,7 +5,6 @@ use Prim.Native.Nat.{ℕ, ◌-◌}
 use native.Mathlib.Omega.{arith}
 use lib.ListN.{length}
 use lib.Seq.{length-take-le}
-use borrow.Author.Rules.{rules}
 use Rattle.fault.specs.Bytes.{most_steps, trailer_bytes}
 use Rattle.service_log.specs.Lines.{log_steps}
 use Rattle.service_log.proofs.LinesLaws.{steps-few}

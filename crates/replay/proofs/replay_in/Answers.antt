@@ -2,7 +2,6 @@
 use mathlib.Core.Path.{ap, ◌∙◌}
 use mathlib.Core.List.{List}
 use Prim.Native.Nat.{ℕ}
-use borrow.Author.Rules.{rules}
 use Rattle.paper.specs.Run.{run}
 use Rattle.engine.specs.Entry.{schedule_of, start_in, ran_answer}
 use Rattle.replay.proofs.EntryLaws.{made_parts}

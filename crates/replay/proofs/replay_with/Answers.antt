@@ -6,7 +6,6 @@ use native.Mathlib.Omega.{arith}
 use lib.Dec.{ltb}
 use lib.ListN.{length, drop}
 use lib.Seq.{length-take-le}
-use borrow.Author.Rules.{rules}
 use Rattle.fault.specs.Bytes.{most_steps, step_bytes}
 use Rattle.bundle.proofs.BundleLaws.{read_short}
 use Rattle.service_log.proofs.LinesLaws.{steps-few}

@@ -1,7 +1,7 @@
 -- The bytes before the trailer, and then the steps and the trailer.
 use mathlib.Core.Path.{sym, ap, ap₂, ◌∙◌}
 use mathlib.Core.List.{List, ◌++◌}
-use Prim.Native.Nat.{ℕ, ◌-◌}
+use Prim.Native.Nat.{ℕ}
 use native.Mathlib.Omega.{arith}
 use lib.ListN.{length}
 use lib.Seq.{length-take-le}
@@ -46,11 +46,11 @@ slice_bounds-append-end c = search rules
 pub append-requires : goal.append-requires
 unfolding made
 append-requires c = let a = c.args in (
-      c.requires.0,
-      c.requires.1,
-      c.requires.2,
-      tail_long c.copy.new.to a.out.now (trailer_of a.bundle.now) (ap length c.copy.ensures ∙ length-take-le (trailer_of a.bundle.now) a.bundle.now (omega arith)) _ (omega (arith, c.requires.0, c.requires.3)),
-    )
+  c.requires.0,
+  c.requires.1,
+  c.requires.2,
+  tail_long c.copy.new.to a.out.now (trailer_of a.bundle.now) (ap length c.copy.ensures ∙ length-take-le (trailer_of a.bundle.now) a.bundle.now (omega arith)) _ (omega (arith, c.requires.0, c.requires.3)),
+)
 
 pub shape_of-out : goal.shape_of-out
 unfolding made

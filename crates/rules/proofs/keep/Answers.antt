@@ -1,10 +1,7 @@
 -- Rule by rule, its ends and its least counts are stored beside those of the rules before it, which stay; all together stand
 -- for the table's design.
 use mathlib.Core.Path.{sym, ◌∙◌}
-use Prim.Native.Nat.{◌-◌, ◌≤◌}
 use native.Mathlib.Omega.{arith}
-use borrow.Author.Rules.{rules}
-use Rattle.rules.specs.Facts.{EndsTo, LeastsTo}
 use Rattle.rules.proofs.RuleLaws.{ends-none, ends_more, ends_all, recorded, leasts-none, leasts-more, leasts-all, kept_by}
 use Rattle.rules.proofs.keep.Goals as goal
 
@@ -20,12 +17,12 @@ keep_ends-requires c = (c.requires.0, c.loop-r-test.true, c.rule-rule.ensures.0,
 
 pub keep_leasts-requires : goal.keep_leasts-requires
 keep_leasts-requires c = (
-      c.requires.0.bounded,
-      c.requires.1,
-      c.loop-r-test.true,
-      recorded c.args.s c.args.table.now c.loop-r.r c.requires.0 c.loop-r-test.true c.types_byte-byte.ensures.0 c.types_byte-byte.ensures.1 c.rule-rule.ensures.0 c.rule-rule.ensures.1,
-      c.loop-r.invariant.2.long,
-    )
+  c.requires.0.bounded,
+  c.requires.1,
+  c.loop-r-test.true,
+  recorded c.args.s c.args.table.now c.loop-r.r c.requires.0 c.loop-r-test.true c.types_byte-byte.ensures.0 c.types_byte-byte.ensures.1 c.rule-rule.ensures.0 c.rule-rule.ensures.1,
+  c.loop-r.invariant.2.long,
+)
 
 pub loop-r-preserved : goal.loop-r-preserved
 loop-r-preserved c = let a = c.args in

@@ -1,11 +1,7 @@
 -- Rule by rule, its ends and its least counts are stored beside those of the rules before it, which stay; all together stand
 -- for the table's design.
-use mathlib.Core.Path.{sym, ◌∙◌}
 use Prim.Native.Nat.{◌-◌, ◌≤◌}
-use native.Mathlib.Omega.{arith}
-use borrow.Author.Rules.{rules}
 use Rattle.rules.specs.Facts.{EndsTo, LeastsTo}
-use Rattle.rules.proofs.RuleLaws.{ends-none, ends_more, ends_all, recorded, leasts-none, leasts-more, leasts-all, kept_by}
 use Rattle.rules.proofs.keep.Given as goal
 
 abbrev pub invariant-loop-r : goal.invariant-loop-r

@@ -1,7 +1,6 @@
 -- All three are read of the rule's record and of the table before the first is written, each in a place of its own.
 use Prim.Native.Nat.{◌+◌, ◌*◌}
 use native.Mathlib.Omega.{arith}
-use borrow.Author.Rules.{rules}
 use lib.ListN.{set, length-set}
 use Rattle.table.proofs.RecordLaws.{leaves-is, enters_is}
 use Rattle.rules.proofs.keep_ends.Goals as goal

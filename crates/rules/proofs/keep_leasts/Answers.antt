@@ -1,9 +1,6 @@
 -- Type by type, the least count that meets the threshold is stored beside those before it, which stay.
 use mathlib.Core.Path.{sym, ◌∙◌}
-use Prim.Native.Nat.{◌-◌, ◌≤◌}
 use native.Mathlib.Omega.{arith}
-use borrow.Author.Rules.{rules}
-use Rattle.rules.specs.Facts.{RowTo}
 use Rattle.rules.proofs.RuleLaws.{row-none, row-all, row_more}
 use Rattle.rules.proofs.keep_leasts.Goals as goal
 

@@ -2,7 +2,6 @@
 use mathlib.Core.Path.{ap₂, ◌∙◌}
 use Prim.Native.Nat.{ℕ}
 use native.Mathlib.Omega.{arith}
-use borrow.Author.Rules.{rules}
 use Rattle.senders.specs.Set.{missing}
 use Rattle.senders.specs.Tally.{least}
 use Rattle.rules.proofs.sent_by.Goals as goal

@@ -2,7 +2,6 @@
 use mathlib.Core.Path.{sym}
 use native.Mathlib.Omega.{arith}
 use lib.ListN.{length-set}
-use borrow.Author.Rules.{rules}
 use Rattle.schedule.proofs.RecordLaws.{put-fits, put-not}
 use Rattle.schedule.proofs.put_step.Goals as goal
 

@@ -1,5 +1,4 @@
 -- The ones under the mask of the senders below c are the members below c; a word has at most 64 ones.
-use borrow.Author.Rules.{rules}
 use lib.Dec.{lit<}
 use native.Mathlib.Nat.{lt_of_le_of_lt}
 use Rattle.senders.proofs.WordLaws.{ones_correct, ones_few}

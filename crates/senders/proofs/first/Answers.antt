@@ -1,6 +1,5 @@
 -- `2 ^ c - 1` has a one for each sender below c. At c = 64 the shift would wrap, and the number is written out.
 use mathlib.Core.Path.{◌≡◌}
-use borrow.Author.Rules.{rules}
 use native.Mathlib.Omega.{arith}
 use lib.Pow.{pow_pos}
 use Rattle.senders.proofs.WordLaws.{shl_one}

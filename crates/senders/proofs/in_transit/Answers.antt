@@ -1,6 +1,5 @@
 -- The word has bit q where q has sent or is not below c, and q is not received. `mem-transit` reads each `!` and `&` as a test of q.
 use mathlib.Core.Path.{◌∙◌}
-use borrow.Author.Rules.{rules}
 use Rattle.senders.proofs.WordLaws.{mem-transit}
 use Rattle.senders.proofs.in_transit.Goals as goal
 

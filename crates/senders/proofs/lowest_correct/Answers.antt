@@ -1,5 +1,4 @@
 -- The mask of the senders below c turns "missing and below c" into "missing", whose least `lowest_missing` gives.
-use borrow.Author.Rules.{rules}
 use Rattle.senders.proofs.WordLaws.{lowest-correct}
 use Rattle.senders.proofs.lowest_correct.Goals as goal
 

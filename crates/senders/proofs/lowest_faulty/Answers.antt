@@ -1,5 +1,4 @@
 -- The senders from c on are a set by themselves, so the faulty ones that are not in the set are those that it misses.
-use borrow.Author.Rules.{rules}
 use Rattle.senders.proofs.WordLaws.{lowest-faulty}
 use Rattle.senders.proofs.lowest_faulty.Goals as goal
 

@@ -1,5 +1,4 @@
 -- One set holds all that can be on the way: the faulty senders, and of the correct ones those that have sent. The least that is missing from what was received is the answer.
-use borrow.Author.Rules.{rules}
 use Rattle.senders.proofs.WordLaws.{lowest-transit}
 use Rattle.senders.proofs.lowest_in_transit.Goals as goal
 

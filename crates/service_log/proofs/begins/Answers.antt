@@ -1,6 +1,5 @@
 -- The bytes are those of the word where the number of the first four and that of the last two are.
 use native.Mathlib.Omega.{arith}
-use borrow.Author.Rules.{rules}
 use Rattle.service_log.proofs.PieceLaws.{begins_six}
 use Rattle.service_log.proofs.begins.Goals as goal
 

@@ -1,5 +1,4 @@
 -- Board and rule come first, each after its word; what the rest of the line tells is then what the line tells.
-use borrow.Author.Rules.{rules}
 use native.Mathlib.Omega.{arith}
 use mathlib.Core.Path.{refl}
 use Rattle.service_log.proofs.LineLaws.{no_board, no_rule, whole-line}

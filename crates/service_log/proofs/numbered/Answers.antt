@@ -1,6 +1,5 @@
 -- Too few bytes, or another word, are no piece of a line; where the word stands, the number after it counts.
 use native.Mathlib.Omega.{arith}
-use borrow.Author.Rules.{rules}
 use Rattle.service_log.proofs.PieceLaws.{numbered-short, numbered-none, numbered-some}
 use Rattle.service_log.proofs.numbered.Goals as goal
 

@@ -1,8 +1,7 @@
 -- Each piece goes on where the one before it ended; the first that is missing makes it a line of another shape.
 use native.Mathlib.Omega.{arith}
-use borrow.Author.Rules.{rules}
 use mathlib.Core.Path.{refl}
-use Rattle.service_log.proofs.LineLaws.{feed_there, silent-line, no_type, no_source, no_feed, heard-line}
+use Rattle.service_log.proofs.LineLaws.{silent-line, no_type, no_source, no_feed, heard-line}
 use Rattle.service_log.proofs.rest_of_line.Goals as goal
 
 pub returns-then-peek-eq10 : goal.returns-then-peek-eq10

@@ -1,6 +1,5 @@
 -- The two checks that all steps have; then a step without a message and one with a message go their own ways.
 use mathlib.Core.Path.{sym, ◌∙◌}
-use borrow.Author.Rules.{rules}
 use Rattle.schedule.specs.Records.{meant}
 use Rattle.step.proofs.StepLaws.{below, no_board, is-asleep}
 use Rattle.step.proofs.kept_step.Goals as goal

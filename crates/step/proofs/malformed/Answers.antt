@@ -1,5 +1,4 @@
 -- The tests are those of the definition, without a branch.
-use borrow.Author.Rules.{rules}
 use Rattle.step.proofs.malformed.Goals as goal
 
 pub returns : goal.returns

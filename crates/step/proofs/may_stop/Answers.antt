@@ -1,7 +1,6 @@
 -- The sum of the definition, and its test.
-use mathlib.Core.Path.{ap, ◌∙◌}
+use mathlib.Core.Path.{ap}
 use Prim.Native.Nat.{ℕ, ◌+◌}
-use borrow.Author.Rules.{rules}
 use Rattle.fault.specs.Tests.{◌at_most◌}
 use Rattle.step.proofs.may_stop.Goals as goal
 

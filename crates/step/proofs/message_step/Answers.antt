@@ -1,7 +1,6 @@
 -- With a message no rule past the table's is taken; any other goes by its rule.
-use mathlib.Core.Path.{refl, sym, ◌∙◌}
+use mathlib.Core.Path.{refl}
 use native.Mathlib.Omega.{arith}
-use borrow.Author.Rules.{rules}
 use borrow.Author.Tests.{lt-leb, eq-eqb, ne_eqb}
 use Rattle.schedule.specs.Records.{meant}
 use Rattle.step.proofs.StepLaws.{below, no_stop, board_in_room, fault-rule, fault-state, leaves_by, by_rule_lem, stop-heard}

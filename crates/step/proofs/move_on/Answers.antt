@@ -1,7 +1,6 @@
 -- The state is entered; then the kept type is sent, if there is one. Both are the definition's, at the kept numbers.
 use mathlib.Core.Path.{ap, ◌∙◌, subst⁻¹}
 use native.Mathlib.Omega.{arith}
-use borrow.Author.Rules.{rules}
 use lib.ListN.{length, set}
 use Rattle.step.proofs.StepLaws.{board_in_room}
 use Rattle.step.proofs.KeptLaws.{moved-sent, moved-quiet, length_moved}

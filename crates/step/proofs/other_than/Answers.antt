@@ -1,6 +1,5 @@
 -- The number and the kept state are compared as they stand.
 use native.Mathlib.Omega.{arith}
-use borrow.Author.Rules.{rules}
 use Rattle.step.proofs.other_than.Goals as goal
 
 pub returns : goal.returns

@@ -1,6 +1,5 @@
 -- Any other rule is refused as by a rule; of a stop the two tests are those of the definition.
 use mathlib.Core.Path.{refl, sym, ◌∙◌}
-use borrow.Author.Rules.{rules}
 use borrow.Author.Tests.{lt-leb, le-leb, eq-eqb, ne_eqb, leb-true, leb-false}
 use Rattle.schedule.specs.Records.{meant}
 use Rattle.step.proofs.StepLaws.{fault-rule, by_rule_lem, no_more-stops, stops_now}

@@ -1,7 +1,6 @@
 -- A rule past the table's is a stop or none; any other goes by its rule.
-use mathlib.Core.Path.{refl, sym, ◌∙◌}
+use mathlib.Core.Path.{refl}
 use native.Mathlib.Omega.{arith}
-use borrow.Author.Rules.{rules}
 use borrow.Author.Tests.{lt-leb}
 use Rattle.schedule.specs.Records.{meant}
 use Rattle.step.proofs.StepLaws.{below, at-or-past, no_stop, board_in_room, fault-state, leaves_by, by_rule_lem}

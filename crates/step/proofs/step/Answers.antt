@@ -2,7 +2,6 @@
 use mathlib.Core.Path.{ap, sym, ◌∙◌, subst⁻¹}
 use Prim.Native.Nat.{◌+◌, ◌*◌}
 use native.Mathlib.Omega.{arith}
-use borrow.Author.Rules.{rules}
 use lib.ListN.{length}
 use Rattle.step.proofs.KeptLaws.{fault-kept, left-kept, grown-left, length-left}
 use Rattle.words.specs.Facts.{Grown}

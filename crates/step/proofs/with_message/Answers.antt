@@ -3,7 +3,6 @@ use mathlib.Core.Path.{sym, ap, ◌∙◌, subst⁻¹}
 use mathlib.Core.Bool.{not}
 use Prim.Native.Nat.{◌+◌}
 use native.Mathlib.Omega.{arith}
-use borrow.Author.Rules.{rules}
 use Rattle.paper.proofs.StepLaws.{heard_message}
 use Rattle.words.proofs.KeepLaws.{holds_more}
 use Rattle.words.specs.Facts.{at_rest, in_step, Holds}

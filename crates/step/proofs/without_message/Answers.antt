@@ -1,7 +1,6 @@
 -- Neither malformed nor away: the thresholds alone decide.
 use mathlib.Core.Path.{sym, ap, ◌∙◌}
 use native.Mathlib.Omega.{arith}
-use borrow.Author.Rules.{rules}
 use Rattle.paper.proofs.StepLaws.{heard_silent}
 use Rattle.words.proofs.KeepLaws.{holds_more}
 use Rattle.words.specs.Facts.{at_rest, in_step}

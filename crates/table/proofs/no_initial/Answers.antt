@@ -1,12 +1,7 @@
 -- The loop keeps that no state before i is initial: one that is ends it with no, and past the last state there is none.
-use mathlib.Core.Bool.{false}
-use mathlib.Core.Path.{◌≡◌}
-use Prim.Native.Nat.{◌≤◌, ◌-◌}
 use borrow.Author.Rules.{rules}
 use Rattle.senders.proofs.TallyLaws.{some-none, some_more}
-use Rattle.senders.specs.Tally.{some}
 use Rattle.table.proofs.TableLaws.{initial-found, initial-never}
-use Rattle.table.specs.Table.{initial_of}
 use Rattle.table.proofs.no_initial.Goals as goal
 
 pub loop-i-init : goal.loop-i-init

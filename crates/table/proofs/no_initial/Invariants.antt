@@ -2,10 +2,7 @@
 use mathlib.Core.Bool.{false}
 use mathlib.Core.Path.{◌≡◌}
 use Prim.Native.Nat.{◌≤◌, ◌-◌}
-use borrow.Author.Rules.{rules}
-use Rattle.senders.proofs.TallyLaws.{some-none, some_more}
 use Rattle.senders.specs.Tally.{some}
-use Rattle.table.proofs.TableLaws.{initial-found, initial-never}
 use Rattle.table.specs.Table.{initial_of}
 use Rattle.table.proofs.no_initial.Given as goal
 

@@ -1,5 +1,4 @@
 -- What is cut from `rule_at` on, with the length that the types byte gives, is the record. It ends before the trailer, so it is whole.
-use borrow.Author.Rules.{rules}
 use Rattle.table.proofs.RecordLaws.{rule-cut, rule-cut-long, rule-ends-inside}
 use Rattle.table.proofs.rule.Goals as goal
 

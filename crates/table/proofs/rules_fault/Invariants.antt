@@ -1,8 +1,6 @@
 -- The loop keeps that no rule before i is at fault, so the first that it finds is the lowest. It counts up to the number of rules.
 use mathlib.Core.Path.{◌≡◌}
 use Prim.Native.Nat.{◌≤◌, ◌-◌}
-use borrow.Author.Rules.{rules}
-use Rattle.fault.proofs.FaultLaws.{first-none, first_found, first_more, first-never}
 use Rattle.fault.specs.Fault.{fine, first_fault}
 use Rattle.table.specs.Refusals.{rule_fault}
 use Rattle.table.proofs.rules_fault.Given as goal

@@ -1,5 +1,4 @@
 -- A byte is under 128 in size and n at most 64, so the product is at most 8192 and doesn't wrap.
-use borrow.Author.Rules.{rules}
 use native.Mathlib.Omega.{arith}
 use mir.Facts.{to_z-of_z}
 use Rattle.threshold.proofs.SizeLaws.{bits_back, small, mag_mul}

@@ -2,7 +2,6 @@
 use mathlib.Core.Path.{refl}
 use native.Mathlib.Omega.{arith}
 use Prim.Native.Nat.{◌+◌, ◌%◌}
-use borrow.Author.Rules.{rules}
 use Rattle.threshold.specs.Threshold.{signed_byte}
 use Rattle.threshold.proofs.SizeLaws.{bits_back, small, turned-byte, byte_small}
 use Rattle.threshold.proofs.signed.Goals as goal

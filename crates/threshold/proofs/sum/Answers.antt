@@ -1,6 +1,5 @@
 -- Each sum and product is small enough to be read back from its bits unchanged, so the result is the sum over the integers.
 use mathlib.Core.Path.{ap}
-use borrow.Author.Rules.{rules}
 use native.Mathlib.Omega.{arith}
 use lib.Signed.{mag}
 use Rattle.threshold.specs.Threshold.{sum_of}

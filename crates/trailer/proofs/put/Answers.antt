@@ -2,7 +2,6 @@
 use mathlib.Core.Path.{◌≡◌, refl, sym}
 use Prim.Native.Nat.{ℕ, ◌+◌, ◌*◌, ◌≤◌}
 use native.Mathlib.Omega.{arith}
-use borrow.Author.Rules.{rules}
 use Rattle.layout.specs.Layout.{types_in, rule_bytes}
 use Rattle.table.specs.Table.{state_bytes, most_records}
 use Rattle.table.specs.Facts.{CountsFit}

@@ -1,9 +1,7 @@
 -- At level j the steps are those at the start made coarser by j - k levels; the last j is the level that is asked for.
-use Prim.Native.Nat.{◌-◌, ◌≤◌}
 use native.Mathlib.Omega.{arith}
-use borrow.Author.Rules.{rules}
 use Rattle.schedule.proofs.RecordLaws.{records_kept}
-use Rattle.translate.proofs.WriteLaws.{Coarsened, coarsened_none, coarsened_more, coarsened_all}
+use Rattle.translate.proofs.WriteLaws.{coarsened_none, coarsened_more, coarsened_all}
 use Rattle.translate.proofs.coarsen.Goals as goal
 
 pub loop-j-init : goal.loop-j-init

@@ -1,7 +1,6 @@
 -- Without a message the lowest source is the record's own, so that nothing changes; with one it is the sender that is found, heard and named.
 use mathlib.Core.Path.{sym, ap, ◌∙◌}
 use Prim.Native.Nat.{◌+◌, ◌*◌}
-use borrow.Author.Rules.{rules}
 use lib.ListN.{set}
 use Rattle.schedule.specs.Records.{meant}
 use Rattle.translate.proofs.StepLaws.{source_what, low-unheard, low_unnamed, low-sourced, low-heard, low-named}

@@ -1,5 +1,4 @@
 -- Tag 0 is that of the correct senders and tag 1 that of the faulty ones: the lowest of each kind in transit is the lowest of its tag.
-use borrow.Author.Rules.{rules}
 use native.Mathlib.Omega.{arith}
 use Rattle.translate.proofs.StepLaws.{lowest-tag-correct, lowest-tag-faulty}
 use Rattle.translate.proofs.lowest_of.Goals as goal

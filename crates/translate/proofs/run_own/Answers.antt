@@ -1,7 +1,6 @@
 -- As many words are lent on as the bundle's own level needs.
 use mathlib.Core.Path.{sym, ◌∙◌}
 use native.Mathlib.Omega.{arith}
-use borrow.Author.Rules.{rules}
 use lib.Seq.{length-take-le}
 use Rattle.translate.proofs.run_own.Goals as goal
 

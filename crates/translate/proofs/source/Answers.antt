@@ -1,6 +1,5 @@
 -- At the levels that count the lowest in transit has the only tag; of senders the lowest of the class is looked for.
 use native.Mathlib.Omega.{arith}
-use borrow.Author.Rules.{rules}
 use Rattle.senders.proofs.TallyLaws.{least-le}
 use Rattle.paper.proofs.FormLaws.{wide-some}
 use Rattle.schedule.specs.Records.{meant}
@@ -11,9 +10,9 @@ use Rattle.translate.proofs.source.Goals as goal
 
 pub returns-then-s-ne0 : goal.returns-then-s-ne0
 returns-then-s-ne0 c = let a = c.args in (
-      source-found a.s a.w.now (meant a.x) (source-low a.s a.w.now a.x.board a.x.mtype a.x.source c.if-s-ne0.true c.requires.3 c.first_source.ensures),
-      omega (arith, c.first_source.ensures, least-le (column_in a.s).sources (transit_in a.s a.w.now a.x.board a.x.mtype), sources-few a.s.level a.s.correct a.s.faulty c.requires.0.boards),
-    )
+  source-found a.s a.w.now (meant a.x) (source-low a.s a.w.now a.x.board a.x.mtype a.x.source c.if-s-ne0.true c.requires.3 c.first_source.ensures),
+  omega (arith, c.first_source.ensures, least-le (column_in a.s).sources (transit_in a.s a.w.now a.x.board a.x.mtype), sources-few a.s.level a.s.correct a.s.faulty c.requires.0.boards),
+)
 
 pub bounds-w-i : goal.bounds-w-i
 bounds-w-i c = omega (arith, c.requires.1.fits, (wide-some c.args.s.level).0, c.cell_at-i.ensures.1)

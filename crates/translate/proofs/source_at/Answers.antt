@@ -3,7 +3,6 @@
 use mathlib.Core.Path.{refl, ap, ◌∙◌, subst, subst⁻¹}
 use Prim.Native.Nat.{◌+◌, ◌*◌}
 use native.Mathlib.Omega.{arith}
-use borrow.Author.Rules.{rules}
 use lib.ListN.{set}
 use Rattle.paper.specs.Paper.{Step}
 use Rattle.schedule.specs.Records.{meant, record_at}

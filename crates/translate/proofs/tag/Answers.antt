@@ -1,7 +1,6 @@
 -- Without a message the source stays; with one, the three cases of the tag are those of the definition.
 use mathlib.Core.Path.{sym, ◌∙◌}
 use native.Mathlib.Omega.{arith}
-use borrow.Author.Rules.{rules}
 use Rattle.fault.proofs.FaultLaws.{if_yes, if_no}
 use Rattle.schedule.specs.Records.{meant}
 use Rattle.translate.proofs.StepLaws.{tag-source, tag-none, tag-zero, tag_one}

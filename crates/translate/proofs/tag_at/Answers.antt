@@ -1,7 +1,6 @@
 -- The record is read, and its source replaced by the tag of that very step.
 use mathlib.Core.Path.{ap, ◌∙◌}
 use Prim.Native.Nat.{◌+◌, ◌*◌}
-use borrow.Author.Rules.{rules}
 use lib.ListN.{set}
 use Rattle.paper.specs.Paper.{Step}
 use Rattle.agree.specs.Translation.{tag_by}

@@ -2,7 +2,6 @@
 use mathlib.Core.Path.{ap, ◌∙◌}
 use Prim.Native.Nat.{ℕ}
 use lib.ListN.{length}
-use borrow.Author.Rules.{rules}
 use Rattle.translate.specs.Entry.{translate_to_answer, translate_to_bytes}
 use Rattle.translate.proofs.translate.Goals as goal
 

@@ -1,5 +1,4 @@
 -- The run decides: a refusal is answered as it is, and else the translation is written.
-use borrow.Author.Rules.{rules}
 use Rattle.translate.proofs.EntryLaws.{done_refused, done_runs, done_written, runs_by}
 use Rattle.translate.proofs.translate_in.Goals as goal
 

@@ -1,6 +1,5 @@
 -- Room for the rules and for a configuration is made, and the translation is in it.
 use mathlib.Core.Path.{refl}
-use borrow.Author.Rules.{rules}
 use Rattle.translate.proofs.translate_to.Goals as goal
 
 pub translate_with-requires : goal.translate_with-requires

@@ -1,6 +1,5 @@
 -- The entry in its order: what reading refuses, 31, 30, then the run.
 use mathlib.Core.Path.{sym, ◌∙◌}
-use borrow.Author.Rules.{rules}
 use lib.ListN.{length, take, take-append-drop}
 use lib.Seq.{length-take-le}
 use Rattle.engine.proofs.EntryLaws.{opens_unread, opens_clean, nothing_done_lem, ready_parts}

@@ -2,7 +2,6 @@
 use mathlib.Core.Path.{ap, sym, ◌∙◌}
 use Prim.Native.Nat.{◌-◌}
 use native.Mathlib.Omega.{arith}
-use borrow.Author.Rules.{rules}
 use lib.ListN.{length}
 use Rattle.translate.proofs.WriteLaws.{steps_part, all-written, moved-long, rewritten-long}
 use Rattle.translate.specs.Written.{begin_of, moved_by}

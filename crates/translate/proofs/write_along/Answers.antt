@@ -1,12 +1,11 @@
 -- After i turns the first i records have their lowest sources, and the words are those after the first i of the new steps.
-use mathlib.Core.Path.{◌≡◌, refl, sym, ap, ◌∙◌}
-use Prim.Native.Nat.{◌+◌, ◌*◌, ◌/◌, ◌-◌, ◌≤◌}
+use mathlib.Core.Path.{refl, sym, ap, ◌∙◌}
+use Prim.Native.Nat.{◌+◌, ◌*◌, ◌/◌}
 use native.Mathlib.Omega.{arith}
-use borrow.Author.Rules.{rules}
 use lib.ListN.{length, length-set}
-use Rattle.words.specs.Facts.{at_rest, Holds}
+use Rattle.words.specs.Facts.{at_rest}
 use Rattle.words.proofs.KeepLaws.{holds_more}
-use Rattle.translate.proofs.LoopLaws.{Alongs, alongs_none, alongs_acceptable, alongs_more, alongs_all}
+use Rattle.translate.proofs.LoopLaws.{alongs_none, alongs_acceptable, alongs_more, alongs_all}
 use Rattle.translate.proofs.write_along.Goals as goal
 
 pub loop-i-init : goal.loop-i-init

@@ -1,12 +1,9 @@
 -- After i turns the first i records have their lowest sources, and the words are those after the first i of the new steps.
-use mathlib.Core.Path.{◌≡◌, refl, sym, ap, ◌∙◌}
-use Prim.Native.Nat.{◌+◌, ◌*◌, ◌/◌, ◌-◌, ◌≤◌}
-use native.Mathlib.Omega.{arith}
-use borrow.Author.Rules.{rules}
-use lib.ListN.{length, length-set}
-use Rattle.words.specs.Facts.{at_rest, Holds}
-use Rattle.words.proofs.KeepLaws.{holds_more}
-use Rattle.translate.proofs.LoopLaws.{Alongs, alongs_none, alongs_acceptable, alongs_more, alongs_all}
+use mathlib.Core.Path.{◌≡◌}
+use Prim.Native.Nat.{◌+◌, ◌*◌, ◌-◌, ◌≤◌}
+use lib.ListN.{length}
+use Rattle.words.specs.Facts.{Holds}
+use Rattle.translate.proofs.LoopLaws.{Alongs}
 use Rattle.translate.proofs.write_along.Given as goal
 
 abbrev pub invariant-loop-i : goal.invariant-loop-i

@@ -1,6 +1,5 @@
 -- The walk begins with the bundle's own first words.
 use mathlib.Core.Path.{ap, ◌∙◌, subst, subst⁻¹}
-use borrow.Author.Rules.{rules}
 use mathlib.Core.List.{List}
 use Prim.Native.Nat.{ℕ}
 use Rattle.paper.specs.Words.{start}

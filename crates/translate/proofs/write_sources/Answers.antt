@@ -1,7 +1,6 @@
 -- As many words are lent on as a configuration of that level has.
 use mathlib.Core.Path.{sym, ◌∙◌}
 use native.Mathlib.Omega.{arith}
-use borrow.Author.Rules.{rules}
 use lib.Seq.{length-take-le}
 use Rattle.translate.proofs.write_sources.Goals as goal
 

@@ -3,7 +3,6 @@ use mathlib.Core.Path.{ap, ap₂, sym, ◌∙◌}
 use mathlib.Core.List.{List}
 use Prim.Native.Nat.{ℕ, ◌-◌}
 use native.Mathlib.Omega.{arith}
-use borrow.Author.Rules.{rules}
 use Rattle.agree.specs.Translation.{coarser}
 use Rattle.agree.proofs.Runs.{finer_only, coarser_only}
 use Rattle.schedule.specs.Records.{steps_in, bytes_of}

@@ -1,10 +1,9 @@
 -- After i turns the first i records have their tags and the rest are as they were; at the end all have them.
 use mathlib.Core.Path.{sym, ◌∙◌}
-use Prim.Native.Nat.{◌/◌, ◌-◌, ◌≤◌}
+use Prim.Native.Nat.{◌/◌}
 use native.Mathlib.Omega.{arith}
-use borrow.Author.Rules.{rules}
 use lib.ListN.{length}
-use Rattle.translate.proofs.LoopLaws.{Tags, tags-none, tags-more, tags-all}
+use Rattle.translate.proofs.LoopLaws.{tags-none, tags-more, tags-all}
 use Rattle.translate.proofs.write_tags.Goals as goal
 
 pub loop-i-init : goal.loop-i-init

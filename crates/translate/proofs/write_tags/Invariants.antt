@@ -1,10 +1,6 @@
 -- After i turns the first i records have their tags and the rest are as they were; at the end all have them.
-use mathlib.Core.Path.{sym, ◌∙◌}
-use Prim.Native.Nat.{◌/◌, ◌-◌, ◌≤◌}
-use native.Mathlib.Omega.{arith}
-use borrow.Author.Rules.{rules}
-use lib.ListN.{length}
-use Rattle.translate.proofs.LoopLaws.{Tags, tags-none, tags-more, tags-all}
+use Prim.Native.Nat.{◌-◌, ◌≤◌}
+use Rattle.translate.proofs.LoopLaws.{Tags}
 use Rattle.translate.proofs.write_tags.Given as goal
 
 abbrev pub invariant-loop-i : goal.invariant-loop-i

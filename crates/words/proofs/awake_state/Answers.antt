@@ -1,5 +1,4 @@
 -- The test of the definition; its two answers are the two ends.
-use mathlib.Core.Path.{◌≡◌, sym, ◌∙◌}
 use borrow.Author.Rules.{rules}
 use Rattle.fault.specs.Fault.{◌if◌else◌}
 use Rattle.words.proofs.awake_state.Goals as goal

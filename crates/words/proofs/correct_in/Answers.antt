@@ -1,6 +1,5 @@
 -- The two words that are read are the first and the last of the cell, which show all of it.
 use mathlib.Core.Path.{ap, ◌∙◌}
-use borrow.Author.Rules.{rules}
 use Rattle.words.proofs.PlaceLaws.{coll-words}
 use Rattle.words.specs.Words.{from_correct}
 use Rattle.words.proofs.correct_in.Goals as goal

@@ -1,6 +1,5 @@
 -- The first and the last word of the cell show its collection, and the level counts that; both words are inside the configuration.
 use mathlib.Core.Path.{ap, ◌∙◌}
-use borrow.Author.Rules.{rules}
 use Rattle.words.proofs.PlaceLaws.{first-before, cell-before, coll-words}
 use Rattle.words.specs.Words.{column_in}
 use Rattle.words.proofs.count.Goals as goal

@@ -1,6 +1,5 @@
 -- Where the word is the state already, writing it would change nothing; else it is written.
 use mathlib.Core.Path.{sym, ap, ◌∙◌}
-use borrow.Author.Rules.{rules}
 use lib.ListN.{set}
 use lib.Seq.{set-get_or}
 use Rattle.words.proofs.enter.Goals as goal

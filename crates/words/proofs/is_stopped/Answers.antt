@@ -1,7 +1,6 @@
 -- The set's word is asked for the board.
 use mathlib.Core.Path.{ap, ◌∙◌}
 use Prim.Native.Nat.{ℕ}
-use borrow.Author.Rules.{rules}
 use Rattle.senders.specs.Set.{mem}
 use Rattle.words.proofs.is_stopped.Goals as goal
 

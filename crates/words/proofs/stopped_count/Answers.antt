@@ -1,6 +1,5 @@
 -- The set's word is counted.
 use mathlib.Core.Path.{ap, ◌∙◌}
-use borrow.Author.Rules.{rules}
 use Rattle.senders.specs.Set.{correct_count}
 use Rattle.words.proofs.stopped_count.Goals as goal
 

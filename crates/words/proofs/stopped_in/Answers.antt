@@ -1,5 +1,4 @@
 -- The word at its place is the definition's.
-use borrow.Author.Rules.{rules}
 use Rattle.words.proofs.PlaceLaws.{stopped_word}
 use Rattle.words.proofs.stopped_in.Goals as goal
 

@@ -2,7 +2,6 @@
 use mathlib.Core.Path.{ap}
 use Rattle.drawing.specs.declared.Cursor.{Cursor}
 use native.Mathlib.Omega.{arith}
-use borrow.Author.Rules.{rules}
 use Rattle.drawing.proofs.LineLaws.{arrow_read}
 use Rattle.drawing.proofs.lines.ends.Goals as goal
 

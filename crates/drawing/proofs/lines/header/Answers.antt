@@ -1,9 +1,6 @@
 -- Three pieces of plan with the two numbers between them are the header's plan; nothing of the records is read yet.
 use mathlib.Core.Path.{ap}
-use Prim.Native.Nat.{◌-◌}
-use lib.ListN.{length}
 use native.Mathlib.Omega.{arith}
-use borrow.Author.Rules.{rules}
 use Rattle.drawing.specs.declared.Cursor.{Cursor}
 use Rattle.drawing.proofs.LineLaws.{header_read}
 use Rattle.drawing.proofs.lines.header.Goals as goal

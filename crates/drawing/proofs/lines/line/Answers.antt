@@ -2,7 +2,6 @@
 use mathlib.Core.Path.{ap}
 use Rattle.drawing.specs.declared.Cursor.{Cursor}
 use native.Mathlib.Omega.{arith}
-use borrow.Author.Rules.{rules}
 use Rattle.drawing.proofs.LineLaws.{bracket_there, line-ends, line-closed, named-fails, named-goes, named-further}
 use Rattle.drawing.proofs.lines.line.Goals as goal
 
@@ -21,8 +20,8 @@ returns-then-c c = named-fails c.requires.3 c.requires.2 c.skip-at.ensures c.pee
 
 pub named-requires : goal.named-requires
 named-requires c = (
-      c.follow-c.ensures.within,
-      named-further c.skip-at.ensures c.stand.ensures c.follow-s.ensures c.number-name.ensures c.follow-c.ensures c.if-c.false,
-      c.number-name.ensures.small,
-      named-goes c.requires.3 c.requires.2 c.skip-at.ensures c.peek.ensures.0 c.if-peek-eq125.false c.stand.ensures c.follow-s.ensures c.number-name.ensures c.follow-c.ensures c.if-c.false,
-    )
+  c.follow-c.ensures.within,
+  named-further c.skip-at.ensures c.stand.ensures c.follow-s.ensures c.number-name.ensures c.follow-c.ensures c.if-c.false,
+  c.number-name.ensures.small,
+  named-goes c.requires.3 c.requires.2 c.skip-at.ensures c.peek.ensures.0 c.if-peek-eq125.false c.stand.ensures c.follow-s.ensures c.number-name.ensures c.follow-c.ensures c.if-c.false,
+)

@@ -1,6 +1,5 @@
 -- The byte after the name decides: a bracket where the state is the next and no rule came, a minus for a rule, and with any other no drawing goes on.
 use native.Mathlib.Omega.{arith}
-use borrow.Author.Rules.{rules}
 use Rattle.drawing.proofs.LineLaws.{kind-there, kind-state, minus-there, kind-rule, kind-fails, line-fails}
 use Rattle.drawing.proofs.lines.named.Goals as goal
 

@@ -1,9 +1,7 @@
 -- The loop keeps that the reader stands at a line, or is stuck or at the end. Each line takes at least a byte or ends the reading, so `ahead` falls.
-use mathlib.Core.Path.{◌≡◌, refl}
-use lib.ListN.{length}
-use native.Mathlib.Omega.{arith}
+use mathlib.Core.Path.{refl}
 use borrow.Author.Rules.{rules}
-use Rattle.drawing.proofs.LineLaws.{AtLine, lines-begin, lines_go_on, lines_end, lines_less, free, ahead}
+use Rattle.drawing.proofs.LineLaws.{lines-begin, lines_go_on, lines_end, lines_less, free}
 use Rattle.drawing.proofs.lines.read.Goals as goal
 
 pub loop-out-init : goal.loop-out-init

@@ -1,7 +1,6 @@
 -- The arrow's two names and the label's numbers are the rule's bytes, put after those made before. The sums fit, since a text has a byte or more for each.
 use mathlib.Core.Path.{refl}
 use native.Mathlib.Omega.{arith}
-use borrow.Author.Rules.{rules}
 use Rattle.drawing.proofs.LineLaws.{rule-read}
 use Rattle.drawing.proofs.lines.rule_line.Goals as goal
 

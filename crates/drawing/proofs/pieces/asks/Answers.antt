@@ -1,5 +1,4 @@
 -- By the code: one that asks for a blank, and any other, which asks for itself.
-use borrow.Author.Rules.{rules}
 use Rattle.drawing.proofs.PlanLaws.{asked-blank, asked-byte}
 use Rattle.drawing.proofs.pieces.asks.Goals as goal
 

@@ -1,5 +1,4 @@
 -- The test of the byte is `is_digit`; the rest is literal.
-use borrow.Author.Rules.{rules}
 use Rattle.drawing.proofs.pieces.begins.Goals as goal
 
 pub returns : goal.returns

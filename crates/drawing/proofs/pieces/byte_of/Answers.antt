@@ -1,8 +1,6 @@
 -- By the sign. A number below 0 is at least 1 in size, so its byte is below 256.
-use mathlib.Core.Path.{refl}
 use native.Mathlib.Omega.{arith}
 use borrow.Author.Rules.{rules}
-use Rattle.dot.specs.Reading.{byte_of}
 use Rattle.drawing.proofs.pieces.byte_of.Goals as goal
 
 pub returns-then-negative : goal.returns-then-negative

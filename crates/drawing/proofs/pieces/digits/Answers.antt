@@ -1,7 +1,5 @@
 -- A first digit begins a number, whose rest is read on; without one no drawing goes on here.
-use native.Mathlib.Omega.{arith}
-use borrow.Author.Rules.{rules}
-use Rattle.drawing.proofs.DigitLaws.{First, first-digit, digits-begin, digits-none}
+use Rattle.drawing.proofs.DigitLaws.{first-digit, digits-begin, digits-none}
 use Rattle.drawing.proofs.pieces.digits.Goals as goal
 
 pub overflow_sub-x : goal.overflow_sub-x

@@ -1,7 +1,6 @@
 -- The loop keeps that reading the whole plan comes to reading, from here, what is left of it after j codes.
 use Prim.Native.Nat.{◌-◌}
-use borrow.Author.Rules.{rules}
-use Rattle.drawing.proofs.PlanLaws.{Going, plan-begins, plan-goes-on, plan-ends}
+use Rattle.drawing.proofs.PlanLaws.{Going}
 use Rattle.drawing.proofs.pieces.follow.Given as goal
 
 abbrev pub invariant-loop-j : goal.invariant-loop-j

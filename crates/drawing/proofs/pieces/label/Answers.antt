@@ -1,5 +1,4 @@
 -- What opens the label, its numbers and what closes the line: three pieces of plan, read one after the other.
-use borrow.Author.Rules.{rules}
 use Rattle.drawing.proofs.LabelLaws.{label-read}
 use Rattle.drawing.proofs.pieces.label.Goals as goal
 

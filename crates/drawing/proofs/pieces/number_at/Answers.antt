@@ -1,6 +1,4 @@
 -- What joins the number to the one before, and the number itself; its byte is put at n.
-use borrow.Author.Rules.{rules}
-use mathlib.Core.Path.{◌∙◌, ap}
 use Rattle.drawing.proofs.LabelLaws.{numbered}
 use Rattle.drawing.proofs.pieces.number_at.Goals as goal
 

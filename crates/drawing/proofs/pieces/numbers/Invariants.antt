@@ -1,10 +1,7 @@
 -- The loop keeps that j numbers are read and their bytes put, that reading on comes to the same, and the place in its group of the next.
 use mathlib.Core.Path.{◌≡◌}
 use Prim.Native.Nat.{◌-◌, ◌%◌}
-use native.Mathlib.Omega.{arith}
-use borrow.Author.Rules.{rules}
-use Rattle.dot.proofs.ShapeLaws.{place-first, place-next, place-below}
-use Rattle.drawing.proofs.LabelLaws.{Numbering, numbers-begin, numbers_go_on, numbers-end, numbers-length}
+use Rattle.drawing.proofs.LabelLaws.{Numbering}
 use Rattle.drawing.proofs.pieces.numbers.Given as goal
 
 abbrev pub invariant-loop-j : goal.invariant-loop-j

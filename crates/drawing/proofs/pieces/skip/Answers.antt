@@ -1,10 +1,6 @@
 -- The loop keeps that reading a gap from i comes to reading it from j. It ends at a byte that is no blank, or at the text's end.
-use mathlib.Core.Path.{◌≡◌}
-use Prim.Native.Nat.{◌-◌}
-use lib.ListN.{length}
-use native.Mathlib.Omega.{arith}
 use borrow.Author.Rules.{rules}
-use Rattle.drawing.proofs.FromLaws.{Passing, gap-begins, gap-goes-on, gap-stops, gap_ends}
+use Rattle.drawing.proofs.FromLaws.{gap-begins, gap-goes-on, gap-stops, gap_ends}
 use Rattle.drawing.proofs.pieces.skip.Goals as goal
 
 pub loop-j-init : goal.loop-j-init

@@ -2,7 +2,6 @@
 use mathlib.Core.Path.{ap, ◌∙◌}
 use mathlib.Core.Bool.{◌&&◌}
 use Prim.Native.Nat.{ℕ}
-use borrow.Author.Rules.{rules}
 use Rattle.fault.specs.Tests.{◌below◌}
 use Rattle.words.proofs.LevelCases.{limit_of, first-transit, other-transit}
 use Rattle.words.proofs.level.count_in_transit.Goals as goal

@@ -2,7 +2,6 @@
 use mathlib.Core.Path.{ap, ◌∙◌}
 use Prim.Native.Nat.{ℕ}
 use native.Mathlib.Omega.{arith}
-use borrow.Author.Rules.{rules}
 use Rattle.words.proofs.LevelCases.{limit_of, first-zero, first_one, first-none}
 use Rattle.words.proofs.level.first_count.Goals as goal
 

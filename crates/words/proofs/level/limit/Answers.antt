@@ -2,7 +2,6 @@
 use mathlib.Core.Path.{ap, ◌∙◌}
 use Prim.Native.Nat.{ℕ}
 use lib.Dec.{eqb}
-use borrow.Author.Rules.{rules}
 use Rattle.fault.specs.Fault.{◌if◌else◌}
 use Rattle.words.proofs.level.limit.Goals as goal
 

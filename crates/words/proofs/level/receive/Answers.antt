@@ -1,6 +1,5 @@
 -- Level 0 puts the sender into the cell's word; the others add one to the word of the source. Both are the word and the change of the definition.
 use native.Mathlib.Omega.{arith}
-use borrow.Author.Rules.{rules}
 use Rattle.words.proofs.LevelCases.{slot_is, set-received, count-received}
 use Rattle.words.proofs.level.receive.Goals as goal
 

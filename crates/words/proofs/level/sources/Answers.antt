@@ -2,7 +2,6 @@
 use mathlib.Core.Path.{◌≡◌, refl, ◌∙◌}
 use Prim.Native.Nat.{ℕ, ◌+◌, ◌≤◌}
 use native.Mathlib.Omega.{arith}
-use borrow.Author.Rules.{rules}
 use Rattle.words.proofs.LevelCases.{sets, sources_are}
 use Rattle.paper.specs.Paper.{column}
 use Rattle.paper.proofs.FormLaws.{wide-some}

@@ -1,6 +1,5 @@
 -- The sum fits, since both numbers are bounded.
 use native.Mathlib.Omega.{arith}
-use borrow.Author.Rules.{rules}
 use Rattle.words.proofs.level.with_faulty.Goals as goal
 
 pub returns : goal.returns
