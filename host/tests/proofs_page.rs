@@ -10,7 +10,7 @@ use std::rc::Rc;
 const PAGE: &str = include_str!("../../docs/PROOFS.md");
 
 // The kit's own crates, which are not among ours.
-const KIT: [&str; 1] = ["libc"];
+const KIT: [&str; 1] = ["std"];
 
 // The most characters of a line, so that a person can read and compare it.
 const WIDEST: usize = 300;
@@ -117,7 +117,7 @@ fn edits() -> BTreeSet<String> {
 // ---- names
 // Is the word there, not as a part of a longer one?
 fn has_word(text: &str, word: &str) -> bool {
-    let part = |c: char| c.is_alphanumeric() || ['_', '-', '′'].contains(&c);
+    let part = |c: char| c.is_alphanumeric() || ['_', '-', '\''].contains(&c);
     text.match_indices(word).any(|(at, _)| {
         let (before, after) = (&text[..at], &text[at + word.len()..]);
         !before.chars().next_back().map_or(false, part) && !after.chars().next().map_or(false, part)
@@ -259,8 +259,8 @@ type Slip = (&'static str, &'static str, &'static str, &'static str);
 
 const SLIPS: [Slip; 15] = [
     ("a statement's name", "`demand3 .translated`", "`demand33 .translated`", "demand33"),
-    ("a statement within a module", "`read-by`", "`read-bye`", "read-bye"),
-    ("a part of a statement's name", "`plain-counter .tags`", "`counter .tags`", "counter"),
+    ("a statement within a module", "`read_by`", "`read_bye`", "read_bye"),
+    ("a part of a statement's name", "`plain_counter .tags`", "`counter .tags`", "counter"),
     ("a field", "`StepMoves .one`", "`StepMoves .on`", ".on is"),
     ("a field that has no record", "`demand3 .own`", "`demand3 .standing`", ".standing"),
     ("a record", "`FirstPossible`", "`FirstPosible`", "FirstPosible"),

@@ -15,6 +15,8 @@ use std::fs;
 use std::io::{BufRead, BufReader, Read, Write};
 use std::path::{Path, PathBuf};
 use std::process::{Child, ChildStdin, ChildStdout, Output, Stdio};
+use std::thread::sleep;
+use std::time::Duration;
 
 const STYLES: [&[&str]; 3] = [&[], &["--plain"], &["--json"]];
 
@@ -724,9 +726,17 @@ fn a_reader_that_has_seen_enough_ends_it() {
     following.rows(2);
     let Following { mut child, mut log, rows } = following;
     drop(rows);
-    // It ends at the first row that nobody reads.
+    // It ends at the first row that nobody reads. Until it has begun itself, a child of another test may hold the pipe too: then a
+    // wait follows, and one more.
     log.write_all(b"board 0 rule 3\n").expect("the program reads");
-    assert_eq!(child.wait().expect("its end").code(), Some(0));
+    let status = loop {
+        match child.try_wait().expect("its end") {
+            Some(status) => break status,
+            None => sleep(Duration::from_millis(20)),
+        }
+        let _ = log.write_all(b"board 0 rule 4\n");
+    };
+    assert_eq!(status.code(), Some(0));
     drop(log);
 }
 
