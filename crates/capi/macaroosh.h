@@ -1,4 +1,4 @@
-/* The proved bench for C programs. Link target/staticlib/libcapi.a, which 'rt staticlib capi' writes, for x86-64 Linux.
+/* The proved bench for C programs. Link target/staticlib/libcapi.a, which 'tools/archive' writes, for x86-64 Linux.
  *
  * A bundle is read beside a standing table, which is looked at only where the bundle has no table in front. Any bytes may be
  * given: what is no bundle, table or drawing is refused by number. A pointer may be NULL where its length is 0, and only there;

@@ -13,7 +13,7 @@ pub fn reported(pieces: &[&[u8]]) -> String {
         .stdin(Stdio::piped())
         .stdout(Stdio::piped())
         .spawn()
-        .expect("the report program starts: run 'rt run' in crates/report first");
+        .expect("the report program starts: run 'tools/report' first");
     let mut input = child.stdin.take().expect("its input");
     for (i, piece) in pieces.iter().enumerate() {
         if i > 0 {
