@@ -9,7 +9,7 @@ use native.Mathlib.Decide.{ℕ_discrete}
 use borrow.Author.Tests.{ltb-false, leb-false, not-false, eq-eqb, ne_eqb, le-leb, lt-leb}
 use lib.ListN.{length, take, drop, length-drop}
 use lib.Seq.{length-take-le}
-use Rattle.fault.specs.declared.Verdict.{Verdict}
+use Rattle.fault.specs.Fault.{Verdict}
 use Rattle.fault.specs.Bytes.{byte_at, trailer_bytes, step_bytes, most_step_bytes}
 use Rattle.fault.specs.Tests.{◌over◌, ◌at_least◌, ◌at_most◌, ◌differs◌, outside}
 use Rattle.fault.specs.Fault.{refused, first_fault}

@@ -1,6 +1,6 @@
 -- Refusals 10 to 14, a line each of the outline's table, "Numbers given back"; first the tests, then their order with the table's own.
 use Rattle.std.specs.Prelude.{Bool, not, ◌||◌, List, ℕ, ◌+◌, ◌*◌, ◌%◌, length}
-use Rattle.fault.specs.declared.Verdict.{Verdict}
+use Rattle.fault.specs.Fault.{Verdict}
 use Rattle.fault.specs.Bytes.{byte_at, trailer_bytes, step_bytes, most_step_bytes}
 use Rattle.fault.specs.Tests.{◌below◌, ◌over◌, ◌at_least◌, ◌at_most◌, ◌differs◌, outside}
 use Rattle.fault.specs.Fault.{refused, ◌if◌else◌, ◌▹◌, first_fault}

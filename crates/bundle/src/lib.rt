@@ -4,12 +4,13 @@
 ghost use Rattle.std.specs.Prelude.{◌≡◌, ◌+◌, ◌≤◌, ◌<◌, length};
 ghost use Rattle.fault.specs.Bytes.{trailer_of, trailer_bytes};
 ghost use Rattle.fault.specs.Fault.{first_fault};
+ghost use Rattle.fault.specs.Refusals.{code, told};
 ghost use Rattle.table.specs.Facts.{Sized};
 ghost use Rattle.bundle.specs.Bundle.{step_distance, start_distance, n_of, t_of, f_of, form_of, level_of, correct_of, front_length, table_in_use, starts_of, steps_at, steps_of, most_level};
 ghost use Rattle.bundle.specs.Refusals.{no_trailer, out_of_bundle, not_admitted, steps_off, not_initial, start_fault, schedule_fault, fault_with, read_fault};
 ghost use Rattle.bundle.specs.Facts.{Trailed, Parted};
 
-use fault::Verdict;
+use fault::refusals::{Refusal, Refused, lowest};
 
 // The most boards; the least is 1.
 pub const MOST_BOARDS: usize = senders::MOST_BOARDS as usize;
@@ -34,39 +35,36 @@ pub const MOST_BYTES: usize = table::MOST_BYTES
     + fault::TRAILER_BYTES;
 
 // The bundle's first refusal beside the standing table, for every two byte strings.
-pub fn read_fault<'a>(bundle: &'a [u8], standing: &'a [u8]) -> Verdict
-    ensures { result ≡ read_fault bundle.now standing.now }
+pub fn read_fault<'a>(bundle: &'a [u8], standing: &'a [u8]) -> Result<(), Refused>
+    ensures { told result ≡ read_fault bundle.now standing.now }
 {
     fault_with(table_in_use(bundle, standing), bundle)
 }
 
 // The first refusal of a bundle whose table in use is given.
-fn fault_with(table: &[u8], bundle: &[u8]) -> Verdict
-    ensures { result ≡ fault_with table.now bundle.now }
+fn fault_with(table: &[u8], bundle: &[u8]) -> Result<(), Refused>
+    ensures { told result ≡ fault_with table.now bundle.now }
 {
     if no_trailer(bundle) {
-        return fault::refusal(10, 0);
+        return Err(Refusal::BundleShort.at(0));
     }
     if out_of_bundle(bundle) {
-        return fault::refusal(11, 0);
+        return Err(Refusal::OutOfBundle.at(0));
     }
-    let v = table::table_fault(table);
-    if v.number != 0 {
-        return v;
-    }
+    table::table_fault(table)?;
     schedule_fault(table, bundle)
 }
 
 // The first refusal of the schedule part, once its table is read.
-fn schedule_fault(table: &[u8], bundle: &[u8]) -> Verdict
+fn schedule_fault(table: &[u8], bundle: &[u8]) -> Result<(), Refused>
     requires { (Sized table.now) × (Trailed bundle.now) }
-    ensures { result ≡ schedule_fault table.now bundle.now }
+    ensures { told result ≡ schedule_fault table.now bundle.now }
 {
     if not_admitted(table::factor(table), bundle) {
-        return fault::refusal(12, 0);
+        return Err(Refusal::NotAdmitted.at(0));
     }
     if steps_off(bundle) {
-        return fault::refusal(13, 0);
+        return Err(Refusal::StepsOff.at(0));
     }
     starts_fault(table, starts(bundle))
 }
@@ -230,36 +228,21 @@ fn not_initial(table: &[u8], start: usize) -> bool
     !table::initial(table, start)
 }
 
-fn start_fault(table: &[u8], starts: &[u8], p: usize) -> usize
+fn start_fault(table: &[u8], starts: &[u8], p: usize) -> Result<(), Refusal>
     requires { (Sized table.now) × (p < length starts.now) }
-    ensures { result ≡ start_fault table.now starts.now p }
+    ensures { code result ≡ start_fault table.now starts.now p }
 {
     if not_initial(table, fault::byte_at(starts, p)) {
-        14
+        Err(Refusal::NotInitial)
     } else {
-        0
+        Ok(())
     }
 }
 
 // The lowest board whose start is at fault.
-fn starts_fault(table: &[u8], starts: &[u8]) -> Verdict
+fn starts_fault(table: &[u8], starts: &[u8]) -> Result<(), Refused>
     requires { Sized table.now }
-    ensures { result ≡ first_fault (start_fault table.now starts.now) (length starts.now) }
+    ensures { told result ≡ first_fault (start_fault table.now starts.now) (length starts.now) }
 {
-    let n = starts.len();
-    let mut i = 0;
-    while i < n {
-        let k = start_fault(table, starts, i);
-        if k != 0 {
-            return Verdict {
-                number: k,
-                place: i,
-            };
-        }
-        i += 1;
-    }
-    Verdict {
-        number: 0,
-        place: 0,
-    }
+    lowest(starts.len(), |p| start_fault(table, starts, p))
 }

@@ -1,9 +1,7 @@
 // What C links: each exported name is the library's function of that name, with its promises.
 #![tactic(auto)]
 
-ghost use Rattle.std.specs.Prelude.{◌≡◌, ◌≤◌, length};
-ghost use Rattle.fault.specs.Tests.{◌below◌};
-ghost use Rattle.fault.specs.Fault.{◌if◌else◌};
+ghost use Rattle.std.specs.Prelude.{◌≡◌, length};
 ghost use Rattle.engine.specs.Entry.{run_answer, run_words};
 ghost use Rattle.counted.specs.Entry.{counted_answer};
 ghost use Rattle.translate.specs.Entry.{translate_answer, translate_bytes, translate_to_answer, translate_to_bytes};
@@ -13,7 +11,7 @@ ghost use Rattle.first_step.specs.Entry.{first_answer};
 ghost use Rattle.replay.specs.Entry.{replay_answer, replay_bytes, replay_words};
 ghost use Rattle.search.specs.Entry.{search_answer, search_bytes};
 ghost use Rattle.lists.specs.Entry.{list_answer};
-ghost use Rattle.capi.specs.Packed.{packed, capped, outcome_answer, receipts_answer, Fits, packed_first, FirstFits};
+ghost use Rattle.capi.specs.Packed.{packed, capped, outcome_answer, receipts_answer, packed_first};
 
 // Runs a bundle's schedule in the lent words: refusal, place, steps accepted.
 #[unsafe(no_mangle)]

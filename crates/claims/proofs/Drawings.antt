@@ -8,7 +8,7 @@ use native.Mathlib.Decide.{dec_lt}
 use lib.ListN.{length, take, drop, length-append, take-append-drop}
 use lib.Seq.{take-take, take-append-add, take-append-le}
 use borrow.Author.Tests.{eq-eqb, ne_eqb, le-leb, lt-leb}
-use Rattle.fault.specs.declared.Verdict.{Verdict}
+use Rattle.fault.specs.Fault.{Verdict}
 use Rattle.fault.specs.declared.Answer.{Answer}
 use Rattle.fault.specs.Bytes.{trailer_of}
 use Rattle.fault.specs.Tests.{◌below◌, ◌differs◌}

@@ -5,7 +5,7 @@ use mathlib.Core.List.{List}
 use Prim.Native.Nat.{ℕ, zero, suc, ◌≤◌}
 use native.Mathlib.Omega.{arith}
 use lib.Dec.{eqb}
-use Rattle.fault.specs.declared.Verdict.{Verdict}
+use Rattle.fault.specs.Fault.{Verdict}
 use Rattle.fault.specs.Fault.{fine, verdict, refused, ◌▹◌, first_fault}
 use Rattle.fault.proofs.FaultLaws.{if_keeps}
 use Rattle.table.specs.Table.{states_of, rules_of}

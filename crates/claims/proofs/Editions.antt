@@ -9,7 +9,7 @@ use lib.ListN.{length, take, drop, replicate, length-drop, length-replicate, tak
 use lib.Seq.{get_or-drop}
 use borrow.Author.Tests.{lt-leb, le-leb, eq-eqb}
 use Rattle.senders.specs.Tally.{some}
-use Rattle.fault.specs.declared.Verdict.{Verdict}
+use Rattle.fault.specs.Fault.{Verdict}
 use Rattle.fault.specs.declared.Answer.{Answer}
 use Rattle.fault.specs.Bytes.{byte_at, trailer_bytes, trailer_of}
 use Rattle.fault.specs.Tests.{◌differs◌}

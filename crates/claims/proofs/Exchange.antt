@@ -10,7 +10,7 @@ use lib.ListN.{length, take, drop}
 use borrow.Author.Tests.{eq-eqb}
 use Rattle.fault.specs.Bytes.{step_bytes}
 use Rattle.fault.specs.Fault.{◌if◌else◌}
-use Rattle.fault.specs.declared.Verdict.{Verdict}
+use Rattle.fault.specs.Fault.{Verdict}
 use Rattle.fault.proofs.FaultLaws.{if_no}
 use Rattle.bundle.specs.Bundle.{form_of, correct_of, steps_at, table_in_use}
 use Rattle.bundle.specs.Refusals.{read_fault}

@@ -9,7 +9,7 @@ use native.Mathlib.Omega.{arith}
 use lib.ListN.{length, take, drop, length-append, length-drop}
 use lib.Seq.{take_all, take-add, take_at, drop_at, drop-cons, drop-drop, drop-append-add, get_or-append-add, get_or-drop, get_or-take}
 use Rattle.fault.specs.Bytes.{byte_at, trailer_of}
-use Rattle.fault.specs.declared.Verdict.{Verdict}
+use Rattle.fault.specs.Fault.{Verdict}
 use Rattle.fault.specs.Fault.{refused, ◌if◌else◌}
 use Rattle.fault.proofs.FaultLaws.{if_passed, Clean}
 use Rattle.threshold.specs.declared.Weights.{Weights}

@@ -12,7 +12,7 @@ use borrow.Author.Tests.{eq-eqb, ne_eqb, ltb-false, le-ltb}
 use Rattle.fault.specs.Bytes.{byte_at, trailer_of, two_bytes, step_bytes, most_steps}
 use Rattle.fault.specs.Fault.{verdict, fine, refused, nothing_done, ◌if◌else◌}
 use Rattle.fault.specs.Tests.{◌below◌}
-use Rattle.fault.specs.declared.Verdict.{Verdict}
+use Rattle.fault.specs.Fault.{Verdict}
 use Rattle.fault.specs.declared.Answer.{Answer}
 use Rattle.fault.proofs.FaultLaws.{if_yes, if_no}
 use Rattle.fault.proofs.TestLaws.{or-none}

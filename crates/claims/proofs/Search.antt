@@ -10,7 +10,7 @@ use lib.ListN.{length, take, drop, length-append, length-drop}
 use borrow.Author.Tests.{eq-eqb, ne_eqb, lt-ltb, le-ltb}
 use Rattle.fault.specs.Bytes.{step_bytes}
 use Rattle.fault.specs.Fault.{verdict, fine, refused}
-use Rattle.fault.specs.declared.Verdict.{Verdict}
+use Rattle.fault.specs.Fault.{Verdict}
 use Rattle.fault.specs.declared.Answer.{Answer}
 use Rattle.fault.proofs.FaultLaws.{if_yes, if_no, then_stop, then_pass}
 use Rattle.bundle.specs.Bundle.{form_of, table_in_use, level_of}

@@ -12,7 +12,7 @@ use Rattle.words.specs.declared.Sizes.{Sizes}
 use Rattle.words.specs.Words.{room_of}
 use Rattle.receipts.specs.Receipts.{Counts}
 use Rattle.receipts.proofs.Receipts.{receipts_hold}
-use Rattle.engine.specs.declared.Opened.{Opened}
+use Rattle.fault.specs.Fault.{Verdict}
 use Rattle.engine.specs.Design.{sizes_of, design_with, sizes_in, design_in}
 use Rattle.engine.specs.Entry.{schedule_of, ran_with, ran_of, run_answer}
 use Rattle.engine.specs.Open.{Ready, Opens}
@@ -51,12 +51,12 @@ module _ (b standing : List ℕ) (lent : ℕ) where
   unfolding counted_answer
   counted_by e f g h = e ∙ λ i. record { answer = f i; receipts = g i; sends = h i }
 
-  module _ {o : Opened} {x y : List ℕ} (O : Opens b standing o x y) where
-    pub counted_unread : {r : Counted} {a : Answer} → (o.number ≡ 0 → ⊥) → r ≡ record { answer = a; receipts = 0; sends = 0 } → a ≡ run_answer b standing lent → r ≡ counted_answer b standing lent
+  module _ {v : Verdict} {s : Sizes} {x y : List ℕ} (O : Opens b standing v s x y) where
+    pub counted_unread : {r : Counted} {a : Answer} → (v.number ≡ 0 → ⊥) → r ≡ record { answer = a; receipts = 0; sends = 0 } → a ≡ run_answer b standing lent → r ≡ counted_answer b standing lent
     unfolding of_run
     counted_unread n e f = let t = refused_by b standing O n in counted_by e f (if_yes _ refl refl t) (if_yes _ refl refl t)
 
-    module _ (z : o.number ≡ 0) {need : ℕ} (room : need ≡ room_of (sizes_in b standing)) where
+    module _ (z : v.number ≡ 0) {need : ℕ} (room : need ≡ room_of (sizes_in b standing)) where
       pub counted-short : {r : Counted} {a : Answer} → lent < need → r ≡ record { answer = a; receipts = 0; sends = 0 } → a ≡ run_answer b standing lent → r ≡ counted_answer b standing lent
       unfolding of_run
       counted-short h e f =

@@ -1,7 +1,8 @@
 -- Sums over boards and types as loops make them, and how large they are.
 use mathlib.Core.Path.{◌≡◌, refl}
 use mathlib.Core.List.{List}
-use Prim.Native.Nat.{ℕ, zero, suc, ◌+◌, ◌≤◌, ◌<◌}
+use Prim.Native.Nat.{ℕ, zero, suc, ◌+◌, ◌*◌, ◌≤◌, ◌<◌}
+use native.Mathlib.Nat.{mul-le-mul_right}
 use native.Mathlib.Numerals.{add-one}
 use native.Mathlib.Omega.{arith}
 use Rattle.senders.proofs.TallyLaws.{count-at_most}
@@ -24,6 +25,9 @@ module _ (g : ℕ → ℕ) where
 
   pub sum-ends : {x i n : ℕ} → x ≡ sum_below i g → i ≤ n → n ≤ i → x ≡ sum_below n g
   sum-ends {x} {i} {n} e a b = let z : n ≡ i = omega arith in rw z e
+
+pub sum-within : (most : ℕ) {x i n : ℕ} → x ≤ i * most → i ≤ n → x ≤ n * most
+sum-within most {x} {i} {n} h l = omega (arith, h, mul-le-mul_right most l)
 
 -- what was sent of a type is at most a word, or at most the boards
 sent_of_lem : (k C f v : ℕ) → C ≤ 64 → ((k ≡ 0 → ⊥) → v ≤ at_end) → from_correct k C f (shown k C f v) ≤ at_end

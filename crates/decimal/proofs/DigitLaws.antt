@@ -9,7 +9,7 @@ use lib.Dec.{ltb, eqb, leb}
 use lib.ListN.{length, drop, drop_of_length-le}
 use lib.Seq.{drop-cons}
 use Rattle.senders.proofs.TallyLaws.{and_both as both}
-use borrow.Author.Tests.{ltb-true, ltb-false, lt-ltb, le-ltb, le-leb, leb-true, eqb-false, ne_eqb, not-true}
+use borrow.Author.Tests.{ltb-true, lt-ltb, le-ltb, le-leb, leb-true, eqb-false, ne_eqb, not-true}
 use Rattle.fault.specs.Bytes.{byte_at}
 use Rattle.fault.specs.Fault.{◌if◌else◌}
 use Rattle.decimal.specs.Digits.{is_digit, peeked, goes_on, longest, Ends}
@@ -100,21 +100,15 @@ pub record Growing (t : List ℕ) (i v most j w : ℕ) : Type 0 where
 pub grows_none : {t : List ℕ} {i v most : ℕ} → i ≤ length t → v ≤ 255 → Growing t i v most i v
 grows_none l h = record { within = l; onward = omega arith; small = h; same = refl }
 
--- what the next digit is, by the two peeks of the loop
-pub record Next (t : List ℕ) (j w y : ℕ) : Type 0 where
-  pub there : j < length t
-  pub least : 48 ≤ y
-  pub most : w * 10 + (y - 48) ≤ 255
+-- what the next digit is
+pub record Next (w x : ℕ) : Type 0 where
+  pub least : 48 ≤ x
+  pub most : w * 10 + (x - 48) ≤ 255
 
-pub grows-next : (t : List ℕ) (j w : ℕ) {x y most : ℕ} {b : Bool} → x ≡ peeked t j → b ≡ goes_on x w most → b ≡ true → y ≡ peeked t j → most ≤ 255 → Next t j w y
-grows-next t j w {x} {y} {most} ex eb h ey l =
+pub grows-next : {w x most : ℕ} {b : Bool} → b ≡ goes_on x w most → b ≡ true → most ≤ 255 → Next w x
+grows-next {w} {x} {most} eb h l =
     let q = goes_on_lem x w most (sym eb ∙ h) in
-    let z : y ≡ x = ey ∙ sym ex in
-    record {
-      there = (seen (λ (x : ℕ). goes_on x w most) t j (none_over w most) ex (sym eb ∙ h)).there;
-      least = omega (arith, z, q.digit.from);
-      most = omega (arith, z, q.within);
-    }
+    record { least = q.digit.from; most = omega (arith, q.within) }
 
 pub longest-on : (most w c : ℕ) (t : List ℕ) → goes_on c w most ≡ true → longest most w (c ∷ t) ≡ longest most (w * 10 + (c - 48)) t
 unfolding longest ◌if◌else◌
@@ -134,29 +128,36 @@ longest-least most v (c ∷ t) = split (goes_on c v most) refl (longest-least mo
     split false h o = rw (longest-ends most v c t h) (omega arith)
     split true h o = rw (longest-on most v c t h) (omega (arith, o))
 
-pub grows-more : {t : List ℕ} {i v j w x y most : ℕ} {b : Bool} → Growing t i v most j w → most ≤ 255 →
-    x ≡ peeked t j → b ≡ goes_on x w most → b ≡ true → y ≡ peeked t j → Growing t i v most (j + 1) (w * 10 + (y - 48))
-grows-more {t} {i} {v} {j} {w} {x} {y} {most} {b} g l ex eb h ey =
-    let n = grows-next t j w ex eb h ey l in
-    let s = seen_byte t j ey n.there in
-    let o : goes_on (byte_at t j) w most ≡ true = ap (λ (z : ℕ). goes_on z w most) (s ∙ ey ∙ sym ex) ∙ sym eb ∙ h in
+pub grows-more : {t : List ℕ} {i v j w x most : ℕ} {b : Bool} → Growing t i v most j w → most ≤ 255 → j < length t →
+    x ≡ byte_at t j → b ≡ goes_on x w most → b ≡ true → Growing t i v most (j + 1) (w * 10 + (x - 48))
+grows-more {t} {i} {v} {j} {w} {x} {most} g l o e eb h =
     record {
-      within = omega (arith, n.there);
+      within = omega arith;
       onward = omega (arith, g.onward);
-      small = n.most;
-      same = g.same ∙ ap (longest most w) (drop-cons t j 0 n.there) ∙ longest-on most w (byte_at t j) (drop (suc j) t) o
-          ∙ rw (s, add-one j);
+      small = (grows-next eb h l).most;
+      same = rw (e, add-one j) (g.same ∙ ap (longest most w) (drop-cons t j 0 o) ∙ longest-on most w (byte_at t j) (drop (suc j) t) (sym (ap (λ (z : ℕ). goes_on z w most) e) ∙ sym eb ∙ h));
     }
 
-pub grows_all : {t : List ℕ} {i v j w x most : ℕ} {b : Bool} → Growing t i v most j w → x ≡ peeked t j → b ≡ goes_on x w most → b ≡ false →
+-- a byte of another kind ends it
+pub grows_stop : {t : List ℕ} {i v j w x most : ℕ} {b : Bool} → Growing t i v most j w → j < length t → x ≡ byte_at t j → b ≡ goes_on x w most → b ≡ false →
     Ends t i v most (record { place = j; value = w })
+grows_stop {t} {i} {v} {j} {w} {x} {most} g o e eb h =
+    record {
+      within = g.within;
+      onward = g.onward;
+      small = g.small;
+      whole = g.same ∙ rw (drop-cons t j 0 o) (longest-ends most w (byte_at t j) (drop (suc j) t) (sym (ap (λ (z : ℕ). goes_on z w most) e) ∙ sym eb ∙ h));
+    }
+
+-- and so does the end of the text
+pub grows_over : {t : List ℕ} {i v j w most : ℕ} → Growing t i v most j w → length t ≤ j → Ends t i v most (record { place = length t; value = w })
 unfolding longest
-grows_all {t} {i} {v} {j} {w} {x} {most} {b} g ex eb h =
-    record { within = g.within; onward = g.onward; small = g.small; whole = g.same ∙ stop (ltb j (length t)) refl }
-  where
-    stop : (z : Bool) → ltb j (length t) ≡ z → longest most w (drop j t) ≡ record { size = w; after = drop j t }
-    stop true e =
-        let o = ltb-true j (length t) e in
-        let f : goes_on (byte_at t j) w most ≡ false = ap (λ (z : ℕ). goes_on z w most) (seen_byte t j ex o) ∙ sym eb ∙ h in
-        rw (drop-cons t j 0 o) (longest-ends most w (byte_at t j) (drop (suc j) t) f)
-    stop false e = let o = ltb-false j (length t) e in rw (drop_of_length-le t o)
+grows_over {t} {i} {v} {j} {w} {most} g l =
+    let e : j ≡ length t = omega (arith, g.within) in
+    rw (← e)
+    (record {
+      within = g.within;
+      onward = g.onward;
+      small = g.small;
+      whole = g.same ∙ rw (drop_of_length-le t l);
+    })

@@ -12,6 +12,7 @@ pub struct Number {
 }
 
 // The byte at i; past the end 256, which is no byte.
+// Stays: an Option is no plainer, since every test of the byte would need one of the end beside it, and 256 fails them all.
 pub fn peek(text: &[u8], i: usize) -> usize
     ensures { (result ≡ peeked text.now i) × (result ≤ 256) }
 {
@@ -32,13 +33,18 @@ pub fn rest(text: &[u8], i: usize, v: usize, most: usize) -> Number
     requires { (i ≤ length text.now) × (v ≤ 255) × (most ≤ 255) }
     ensures { Ends text.now i v most result }
 {
-    let mut j = i;
     let mut w = v;
-    while grows(peek(text, j), w, most) {
-        w = w * 10 + (peek(text, j) - 48);
-        j += 1;
+    for j in i..text.len() {
+        let x = fault::byte_at(text, j);
+        if !grows(x, w, most) {
+            return Number { place: j, value: w };
+        }
+        w = w * 10 + (x - 48);
     }
-    Number { place: j, value: w }
+    Number {
+        place: text.len(),
+        value: w,
+    }
 }
 
 // Is x a digit with which the number stays in its range? 0 goes on with none.

@@ -6,7 +6,7 @@ use Prim.Native.Nat.{ℕ, ◌+◌, ◌≤◌}
 use native.Mathlib.Omega.{arith}
 use lib.ListN.{length, take, drop, length-append}
 use lib.Seq.{take_at}
-use Rattle.fault.specs.declared.Verdict.{Verdict}
+use Rattle.fault.specs.Fault.{Verdict}
 use Rattle.fault.specs.declared.Answer.{Answer}
 use Rattle.fault.proofs.FaultLaws.{if_yes, if_no}
 use Rattle.ink.specs.Ink.{stored}
@@ -23,7 +23,9 @@ use Rattle.trailer.proofs.TrailerLaws.{trailer-length}
 use Rattle.dot.specs.Reading.{Gathered, Outcome, drawn, fault, reading}
 use Rattle.drawing.specs.declared.Reader.{Reader}
 use Rattle.drawing.specs.Entry.{table_of, drawn_fault, drawn_table, undraw_answer, undraw_bytes}
-use Rattle.drawing.specs.Lines.{Known, Finished}
+use Rattle.fault.specs.Refusals.{number_of}
+use Rattle.fault.specs.declared.refusals.Refused.{Refused}
+use Rattle.drawing.specs.Lines.{Known, NoneAt}
 
 -- ---- what a text draws
 pub record Undrew (t out : List ℕ) (a : Answer) (u : List ℕ) : Type 0 where
@@ -34,19 +36,20 @@ undrew : {t out u : List ℕ} {a : Answer} (o : Outcome) → reading t ≡ o →
 unfolding undraw_answer undraw_bytes
 undrew {t} {out} o e g = record { answer = rw e g.answer; bytes = rw e g.bytes }
 
-pub undrew_stuck : {t out tab : List ℕ} {g : Reader} {a : Answer} → Finished t g tab → g.stuck ≡ true → a ≡ record { refusal = 60; place = g.place; count = 0 } → Undrew t out a out
+pub undrew_stuck : {t out : List ℕ} {e : Refused} {k : ℕ} {a : Answer} → NoneAt e (reading t) → k ≡ number_of e.refusal → a ≡ record { refusal = k; place = e.place; count = 0 } → Undrew t out a out
 unfolding drawn_fault drawn_table
-undrew_stuck {t} {out} {tab} {g} d s f = undrew (fault g.place) (d.fails s) (gave_refused 61 [] out refl (λ z. absurd (let y : ◌≡◌ {A = ℕ} 60 0 = z in omega arith)) f)
+undrew_stuck {t} {out} {e} {k} n h f =
+    let y : k ≡ 60 = h ∙ ap number_of n.refusal in
+    undrew (fault e.place) n.fails (gave_refused 61 [] out refl (λ z. absurd (let y : ◌≡◌ {A = ℕ} 60 0 = z in omega arith)) (rw y at f))
 
 -- the counts of what was read are the reader's
 same-counts : {t out : List ℕ} {g : Reader} {o : Gathered → Outcome} (k : Known t g out o) → counts_outside g.states g.rules (types_in g.types) g.factor ≡ counts_outside k.read.states k.read.rules (types_in k.read.types) k.read.factor
 same-counts k = rw (k.states_are, k.rules_are, k.types_are, k.factor_is)
 
-pub undrew_outside : {t out tab : List ℕ} {g : Reader} {a : Answer} {b : Bool} → Finished t g tab → g.stuck ≡ false → b ≡ counts_outside g.states g.rules (types_in g.types) g.factor → b ≡ true →
+pub undrew_outside : {t out tab : List ℕ} {g : Reader} {a : Answer} {b : Bool} → Known t g tab drawn → b ≡ counts_outside g.states g.rules (types_in g.types) g.factor → b ≡ true →
     a ≡ record { refusal = 2; place = 0; count = 0 } → Undrew t out a out
 unfolding drawn_fault drawn_table
-undrew_outside {t} {out} {tab} {g} {a} {b} d s eb y f =
-    let k = d.draws s in
+undrew_outside {t} {out} {tab} {g} {a} {b} k eb y f =
     undrew (drawn k.read) k.goes
     (gave_refused 61 (table_of k.read) out (if_yes _ refl (eb ∙ same-counts k) y) (λ z. absurd (let y : ◌≡◌ {A = ℕ} 2 0 = z in omega arith)) f)
 
@@ -90,13 +93,12 @@ table-room {t} {tab} {tab'} {g} k e z eb h f =
     let l = ap length f ∙ stored-length tab g.made (trailer_for g.states g.rules g.types g.factor) in
     omega (arith, l, e, z, x)
 
-pub undrew_table : {t out tab tab' u : List ℕ} {g : Reader} {a : Answer} {b : Bool} {n : ℕ} → Finished t g tab → g.stuck ≡ false → length tab ≡ most_table →
+pub undrew_table : {t out tab tab' u : List ℕ} {g : Reader} {a : Answer} {b : Bool} {n : ℕ} → Known t g tab drawn → length tab ≡ most_table →
     b ≡ counts_outside g.states g.rules (types_in g.types) g.factor → b ≡ false →
     tab' ≡ stored tab g.made (trailer_for g.states g.rules g.types g.factor) → n ≡ g.made + trailer_bytes →
     Gave 61 (table_fault (take n tab')) (take n tab') out a u → Undrew t out a u
 unfolding drawn_fault drawn_table
-undrew_table {t} {out} {tab} {tab'} {u} {g} {a} {b} {n} d s l eb h e en f =
-    let k = d.draws s in
+undrew_table {t} {out} {tab} {tab'} {u} {g} {a} {b} {n} k l eb h e en f =
     let z : take n tab' ≡ table_of k.read = ap (λ (x : ℕ). take x tab') en ∙ table_stands k l eb h e in
     let c : Gave 61 (table_fault (table_of k.read)) (table_of k.read) out a u = rw z at f in
     let y : table_fault (table_of k.read) ≡ drawn_fault (drawn k.read) = if_no _ (eb ∙ same-counts k) h refl in

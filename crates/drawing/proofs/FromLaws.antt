@@ -80,8 +80,8 @@ gap-left t i j p f = record { within = p.within; onward = p.onward; on = λ k r.
 pub gap-stops : {t : List ℕ} {i j x : ℕ} {b : Bool} → Passing t i j → x ≡ byte_at t j → b ≡ is_blank x → not b ≡ true → Skipped t i j
 gap-stops {t} {i} {j} {x} {b} p ex eb nb = gap-left t i j p (λ h. ap is_blank (sym ex) ∙ sym eb ∙ not-true b nb)
 
-pub gap_ends : {t : List ℕ} {i j : ℕ} → Passing t i j → length t ≤ j → Skipped t i j
-gap_ends {t} {i} {j} p h = gap-left t i j p (λ o. absurd (omega arith))
+pub gap_ends : {t : List ℕ} {i j : ℕ} → Passing t i j → length t ≤ j → Skipped t i (length t)
+gap_ends {t} {i} {j} p h = let e : length t ≡ j = omega (arith, p.within) in rw e (gap-left t i j p (λ o. absurd (omega arith)))
 
 -- ---- the next byte
 -- no byte may follow, nor the end

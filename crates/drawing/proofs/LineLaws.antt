@@ -1,17 +1,16 @@
 -- The header, the lines and the end of a drawing.
 use mathlib.Core.Path.{◌≡◌, refl, sym, ap, ◌∙◌}
-use mathlib.Core.Bool.{Bool, true, false, cond, not, ◌&&◌, ◌||◌, true≢false}
+use mathlib.Core.Bool.{Bool, true, false, cond, ◌&&◌, true≢false}
 use mathlib.Core.List.{List, [], ◌∷◌, ◌++◌, append_assoc}
 use Prim.Native.Nat.{ℕ, ◌+◌, ◌-◌, ◌≤◌, ◌<◌}
 use native.Mathlib.Omega.{arith}
 use native.Mathlib.Nat.{add-mul, one-mul}
 use lib.Dec.{eqb}
 use lib.ListN.{length, length-append}
-use borrow.Author.Tests.{eqb-true, eq-eqb, ne_eqb, not-true, not-false}
+use borrow.Author.Tests.{eqb-true, eq-eqb, ne_eqb}
 use Rattle.senders.proofs.TallyLaws.{and_both as both}
 use Rattle.fault.specs.Bytes.{byte_at}
 use Rattle.fault.specs.Fault.{◌if◌else◌}
-use Rattle.fault.proofs.TestLaws.{or-none}
 use Rattle.layout.specs.Layout.{weight_bytes, rule_bytes, end_bytes}
 use Rattle.table.specs.Table.{state_bytes}
 use Rattle.ink.specs.Ink.{stored}
@@ -27,7 +26,10 @@ use Rattle.dot.proofs.Digits.{shifted_none}
 use Rattle.drawing.specs.declared.Cursor.{Cursor}
 use Rattle.drawing.specs.declared.Reader.{Reader}
 use Rattle.drawing.specs.Cursor.{from, reached, more, label_then, Skipped, Followed, Counted, Labelled}
-use Rattle.drawing.specs.Lines.{Known, on_lines, on_name, on_state, on_rule, on_end, Arrow, Stood, Headed, Closed, Finished}
+use Rattle.fault.specs.declared.refusals.Refused.{Refused}
+use Rattle.fault.specs.declared.refusals.Refusal.TheVariants.{NoDrawing}
+use Rattle.std.specs.Prelude.{Result, Ok, Err}
+use Rattle.drawing.specs.Lines.{Known, on_lines, on_name, on_state, on_rule, on_end, Arrow, NoneAt, Stood, StoodAt, HeadedAt, Closed, ClosedAt}
 use Rattle.drawing.proofs.FromLaws.{from_byte, from-stuck, from-over, from-not, from-same, from_end}
 use Rattle.drawing.proofs.PlanLaws.{at-free, at-stuck, stands}
 
@@ -56,46 +58,51 @@ reading-from : (t : List ℕ) → reading t ≡ from t 0 header nothing_read non
 unfolding reading from
 reading-from t = shifted_none (run t header nothing_read none)
 
-pub header_read : {t : List ℕ} {z a b c byte k : Cursor} → z ≡ stands 0 → Followed t z (text "~digraph_~t~{~T~=~") a → Counted t a false byte →
-    Followed t byte (text "~;~k~=~") b → Counted t b false k → Followed t k (text "~;") c →
-    Headed t (record { place = c.place; stuck = c.stuck; ended = false; types = byte.value; factor = k.value; states = 0; rules = 0; made = 0 })
-unfolding can_minus ended put on_lines ◌if◌else◌ stored
-header_read {t} {z} {a} {b} {c} {byte} {k} ez f x g y h =
-    record {
-      within = h.within;
-      fails = λ s. leads ∙ at-stuck t c lines r2 s;
-      knows = λ out s.
-          record {
-            read = r2;
-            types_are = refl;
-            factor_is = refl;
-            states_are = refl;
-            rules_are = refl;
-            made_is = refl;
-            sum = omega arith;
-            first = out;
-            kept = refl;
-            few = omega (arith, x.small);
-            bytes_fit = omega arith;
-            lines_fit = omega arith;
-            goes = leads ∙ at-free t c lines r2 s;
-          };
-    }
-  where
-    r1 : Gathered
-    r1 = put types byte.value nothing_read
+-- a reader that is refused there
+pub none_at : {e : Refused} {i : ℕ} {o : Outcome} → o ≡ fault i → e ≡ record { refusal = NoDrawing; place = i } → NoneAt e o
+none_at f e = rw e (record { fails = f; refusal = refl })
 
-    r2 : Gathered
-    r2 = put factor k.value r1
+module _ {t : List ℕ} {z a b c byte k : Cursor} (ez : z ≡ stands 0) (f : Followed t z (text "~digraph_~t~{~T~=~") a) (x : Counted t a false byte)
+    (g : Followed t byte (text "~;~k~=~") b) (y : Counted t b false k) (h : Followed t k (text "~;") c) where
+  abbrev header_types : Gathered
+  header_types = put types byte.value nothing_read
 
-    rest : List Item
-    rest = num factor ∷ plan (text "~;") lines
+  abbrev header_put : Gathered
+  header_put = put factor k.value header_types
 
-    leads : reading t ≡ reached t c lines r2
-    leads =
-        reading-from t ∙ sym (at-free t (stands 0) header nothing_read refl) ∙ ap (λ (z : Cursor). reached t z header nothing_read) (sym ez) ∙
-        f.on (num types ∷ plan (text "~;~k~=~") rest) nothing_read ∙ x.on types (plan (text "~;~k~=~") rest) nothing_read refl refl ∙ g.on rest r1 ∙
-        y.on factor (plan (text "~;") lines) r1 refl refl ∙ h.on lines r2
+  header_leads : reading t ≡ reached t c lines header_put
+  unfolding can_minus ended put
+  header_leads =
+      reading-from t ∙ sym (at-free t (stands 0) header nothing_read refl) ∙ ap (λ (z : Cursor). reached t z header nothing_read) (sym ez) ∙
+      f.on (num types ∷ plan (text "~;~k~=~") (num factor ∷ plan (text "~;") lines)) nothing_read ∙
+      x.on types (plan (text "~;~k~=~") (num factor ∷ plan (text "~;") lines)) nothing_read refl refl ∙ g.on (num factor ∷ plan (text "~;") lines) header_types ∙
+      y.on factor (plan (text "~;") lines) header_types refl refl ∙ h.on lines header_put
+
+  pub header_fails : {e : Refused} → c.stuck ≡ true → e ≡ record { refusal = NoDrawing; place = c.place } → NoneAt e (reading t) × (e.place ≤ length t)
+  header_fails s e = (none_at (header_leads ∙ at-stuck t c lines header_put s) e, rw e h.within)
+
+  pub header_read : c.stuck ≡ false → HeadedAt t (record { place = c.place; ended = false; types = byte.value; factor = k.value; states = 0; rules = 0; made = 0 })
+  unfolding put on_lines ◌if◌else◌ stored
+  header_read s =
+      record {
+        within = h.within;
+        knows = λ out.
+            record {
+              read = header_put;
+              types_are = refl;
+              factor_is = refl;
+              states_are = refl;
+              rules_are = refl;
+              made_is = refl;
+              sum = omega arith;
+              first = out;
+              kept = refl;
+              few = omega (arith, x.small);
+              bytes_fit = omega arith;
+              lines_fit = omega arith;
+              goes = header_leads ∙ at-free t c lines header_put s;
+            };
+      }
 
 -- ---- the start of a line
 line-start : (t : List ℕ) (i j : ℕ) (r : Gathered) → Skipped t i j → from t i lines r none ≡ from t j (one line ∷ []) r none
@@ -142,26 +149,18 @@ end-draws : (t : List ℕ) (i j : ℕ) (r : Gathered) → Skipped t i j → leng
 unfolding on_end ended
 end-draws t i j r s l = s.on [] r ∙ from-over t j [] r none (omega (arith, s.within)) refl
 
-pub closed_stuck : {t : List ℕ} {g h : Reader} {i j : ℕ} → Skipped t i j → j < length t → (h.place ≡ j) × (h.stuck ≡ true) → Closed t g i h
-closed_stuck {t} {g} {h} {i} {j} s l e =
-    record {
-      within = omega (arith, e.0);
-      onward = omega (arith, e.0, s.onward);
-      last = rw e.1;
-      fails = λ _ r. end-fails t i j r s l ∙ ap fault (sym e.0);
-      ends = λ z. absurd (true≢false (sym e.1 ∙ z));
-    }
+pub closed_stuck : {t : List ℕ} {i j : ℕ} {e : Refused} → Skipped t i j → j < length t → e ≡ record { refusal = NoDrawing; place = j } → ((r : Gathered) → NoneAt e (on_end t i r)) × (e.place ≤ length t) × (i ≤ e.place)
+closed_stuck {t} {i} {j} s l e = ((λ r. none_at (end-fails t i j r s l) e), rw e s.within, rw e s.onward)
 
 pub closed-ended : {t : List ℕ} {g : Reader} {i j : ℕ} → Skipped t i j → length t ≤ j → g.place + 1 ≤ i →
-    Closed t g i (record { place = j; stuck = false; ended = true; types = g.types; factor = g.factor; states = g.states; rules = g.rules; made = g.made })
+    ClosedAt t g i (record { place = j; ended = true; types = g.types; factor = g.factor; states = g.states; rules = g.rules; made = g.made })
 unfolding on_lines ◌if◌else◌
 closed-ended {t} {g} {i} {j} s l o =
     record {
       within = s.within;
       onward = s.onward;
       last = refl;
-      fails = λ z. absurd (true≢false (sym z));
-      ends = λ _ out k.
+      ends = λ out k.
           record {
             read = k.read;
             types_are = k.types_are;
@@ -179,26 +178,15 @@ closed-ended {t} {g} {i} {j} s l o =
           };
     }
 
-pub line-closed : {t out : List ℕ} {g h : Reader} {i : ℕ} → g.place + 1 ≤ i → Known t g out (on_end t i) → Closed t g i h → Stood t g.place h out
-line-closed {t} {out} {g} {h} {i} o k c =
+pub line-closed : {t out : List ℕ} {g : Reader} {i : ℕ} (h : Result Reader Refused) → g.place + 1 ≤ i → Known t g out (on_end t i) → Closed t g i h → Stood t g.place h out
+line-closed {t} {out} {g} {i} (Ok h) o k c =
     record {
       within = c.within;
       onward = omega (arith, c.onward);
       further = λ z. absurd (true≢false (sym c.last ∙ z));
-      fails = λ s. k.goes ∙ c.fails s k.read;
-      knows = λ s. c.ends s out k;
+      knows = c.ends out k;
     }
-
--- a line where no drawing goes on
-pub line-fails : {t out : List ℕ} {i j : ℕ} {h : Reader} → i ≤ j → j ≤ length t → reading t ≡ fault j → (h.place ≡ j) × (h.stuck ≡ true) → Stood t i h out
-line-fails {t} {out} {i} {j} {h} o l e f =
-    record {
-      within = omega (arith, f.0);
-      onward = omega (arith, f.0);
-      further = λ z. absurd (true≢false (sym (rw f.1) ∙ z));
-      fails = λ _. e ∙ ap fault (sym f.0);
-      knows = λ z. absurd (true≢false (sym f.1 ∙ z));
-    }
+line-closed (Err e) o k c = let n = c.0 k.read in (record { fails = k.goes ∙ n.fails; refusal = n.refusal }, c.1, omega (arith, o, c.2))
 
 pub name-fails : {t out : List ℕ} {g : Reader} (c : Cursor) (v : ℕ) → Known t g out (λ r. reached t c (one kind ∷ []) (put name v r)) → c.stuck ≡ true → reading t ≡ fault c.place
 name-fails {t} {out} {g} c v k s = k.goes ∙ at-stuck t c (one kind ∷ []) (put name v k.read) s
@@ -255,34 +243,49 @@ kind-fails {t} {out} {g} i v {x} l k ex h n =
     split true false e f = refl
     split false b e f = rw (ne_eqb x 45 n)
 
+-- a line that is refused there
+pub line_refused : (t : List ℕ) {i j : ℕ} {e : Refused} → i ≤ j → j ≤ length t → reading t ≡ fault j → e ≡ record { refusal = NoDrawing; place = j } → NoneAt e (reading t) × (e.place ≤ length t) × (i ≤ e.place)
+line_refused t o l f e = (none_at f e, rw e l, rw e o)
+
+-- ---- a line's rest
+-- c stands after it, and h is the reader there; or c is stuck where no drawing goes on
+pub record LineRead (t : List ℕ) (i : ℕ) (c : Cursor) (h : Reader) (out : List ℕ) : Type 0 where
+  pub within : c.place ≤ length t
+  pub onward : i ≤ c.place
+  pub fails : c.stuck ≡ true → reading t ≡ fault c.place
+  pub stands_there : c.stuck ≡ false → StoodAt t i h out
+
 -- ---- a state's line
 pub state-read : {t out left : List ℕ} {g : Reader} (i v : ℕ) {z c : Cursor} {shape : Shape} → g.place + 1 ≤ i → Known t g out (on_state t i v) → z ≡ stands i →
     shape ≡ state_shape → Labelled t z state_bytes (label_then shape state_bytes) c g.made out left →
-    Stood t g.place
-    (record { place = c.place; stuck = c.stuck; ended = false; types = g.types; factor = g.factor; states = g.states + 1; rules = g.rules; made = g.made + state_bytes }) left
+    LineRead t g.place c
+    (record { place = c.place; ended = false; types = g.types; factor = g.factor; states = g.states + 1; rules = g.rules; made = g.made + state_bytes }) left
 unfolding on_state on_lines ◌if◌else◌ put new_state ended
 state-read {t} {out} {left} {g} i v {z} {c} {shape} o k ez es l =
     record {
       within = l.within;
       onward = omega (arith, l.onward, ap (λ (z : Cursor). z.place) ez);
-      further = λ s. omega (arith, l.onward, ap (λ (z : Cursor). z.place) ez);
       fails = λ s. leads ∙ at-stuck t c lines r s;
-      knows = λ s. let f = l.further s in
-          record {
-            read = r;
-            types_are = k.types_are;
-            factor_is = k.factor_is;
-            states_are = rw k.states_are;
-            rules_are = k.rules_are;
-            made_is = length-append k.read.body l.values ∙ omega (arith, k.made_is, l.count);
-            sum = omega (arith, k.sum);
-            first = k.first;
-            kept = l.bytes_put ∙ rw k.kept (stored_more k.first 0 g.made k.read.body l.values (omega (arith, k.made_is)));
-            few = k.few;
-            bytes_fit = omega (arith, k.bytes_fit, f, ap (λ (z : Cursor). z.place) ez);
-            lines_fit = omega (arith, k.lines_fit, f, ap (λ (z : Cursor). z.place) ez);
-            goes = leads ∙ at-free t c lines r s;
-          };
+      stands_there = λ s. let f = l.further s in record {
+        within = l.within;
+        onward = omega (arith, l.onward, ap (λ (z : Cursor). z.place) ez);
+        further = λ _. omega (arith, l.onward, ap (λ (z : Cursor). z.place) ez);
+        knows = record {
+          read = r;
+          types_are = k.types_are;
+          factor_is = k.factor_is;
+          states_are = rw k.states_are;
+          rules_are = k.rules_are;
+          made_is = length-append k.read.body l.values ∙ omega (arith, k.made_is, l.count);
+          sum = omega (arith, k.sum);
+          first = k.first;
+          kept = l.bytes_put ∙ rw k.kept (stored_more k.first 0 g.made k.read.body l.values (omega (arith, k.made_is)));
+          few = k.few;
+          bytes_fit = omega (arith, k.bytes_fit, f, ap (λ (z : Cursor). z.place) ez);
+          lines_fit = omega (arith, k.lines_fit, f, ap (λ (z : Cursor). z.place) ez);
+          goes = leads ∙ at-free t c lines r s;
+        };
+      };
     }
   where
     r0 : Gathered
@@ -315,31 +318,34 @@ arrow_read {t} {out} {mid} {left} {v} {n} {m} {u} {w} {z} {a} {d} i ez f y eu e1
 pub rule-read : {t out mid left : List ℕ} {g : Reader} {n weights : ℕ} {b c d : Cursor} {shape : Shape} (i v : ℕ) → g.place + 1 ≤ i → Known t g out (on_rule t i v) →
     Arrow t i v d g.made out mid → Followed t d (text "~[") b → n ≡ g.made + end_bytes →
     weights ≡ weight_bytes g.types → shape ≡ rule_shape g.types → Labelled t b weights (label_then shape weights) c n mid left →
-    Stood t g.place
-    (record { place = c.place; stuck = c.stuck; ended = false; types = g.types; factor = g.factor; states = g.states; rules = g.rules + 1; made = g.made + end_bytes + weights }) left
+    LineRead t g.place c
+    (record { place = c.place; ended = false; types = g.types; factor = g.factor; states = g.states; rules = g.rules + 1; made = g.made + end_bytes + weights }) left
 unfolding on_rule on_lines ◌if◌else◌ put new_rule ended
 rule-read {t} {out} {mid} {left} {g} {n} {weights} {b} {c} {d} {shape} i v o k y h en ew es l =
     record {
       within = l.within;
       onward = omega (arith, l.onward, h.onward, y.onward);
-      further = λ s. omega (arith, l.onward, h.onward, y.onward);
       fails = λ s. leads ∙ at-stuck t c lines r s;
-      knows = λ s. let u = l.further s in let w = y.further (h.free (l.free s)) in
-          record {
-            read = r;
-            types_are = k.types_are;
-            factor_is = k.factor_is;
-            states_are = k.states_are;
-            rules_are = rw k.rules_are;
-            made_is = length-append r1.body l.values ∙ omega (arith, ends_length, l.count);
-            sum = omega (arith, k.sum, ew, add-mul g.rules 1 (rule_bytes g.types), one-mul (rule_bytes g.types));
-            first = k.first;
-            kept = keeps;
-            few = k.few;
-            bytes_fit = omega (arith, k.bytes_fit, u, w, h.onward);
-            lines_fit = omega (arith, k.lines_fit, u, w, h.onward);
-            goes = leads ∙ at-free t c lines r s;
-          };
+      stands_there = λ s. let u = l.further s in let w = y.further (h.free (l.free s)) in record {
+        within = l.within;
+        onward = omega (arith, l.onward, h.onward, y.onward);
+        further = λ _. omega (arith, l.onward, h.onward, y.onward);
+        knows = record {
+          read = r;
+          types_are = k.types_are;
+          factor_is = k.factor_is;
+          states_are = k.states_are;
+          rules_are = rw k.rules_are;
+          made_is = length-append r1.body l.values ∙ omega (arith, ends_length, l.count);
+          sum = omega (arith, k.sum, ew, add-mul g.rules 1 (rule_bytes g.types), one-mul (rule_bytes g.types));
+          first = k.first;
+          kept = keeps;
+          few = k.few;
+          bytes_fit = omega (arith, k.bytes_fit, u, w, h.onward);
+          lines_fit = omega (arith, k.lines_fit, u, w, h.onward);
+          goes = leads ∙ at-free t c lines r s;
+        };
+      };
     }
   where
     r0 : Gathered
@@ -378,55 +384,35 @@ rule-read {t} {out} {mid} {left} {g} {n} {weights} {b} {c} {d} {shape} i v o k y
 -- ---- all lines
 pub record AtLine (t : List ℕ) (g : Reader) (out : List ℕ) : Type 0 where
   pub within : g.place ≤ length t
-  pub fails : g.stuck ≡ true → reading t ≡ fault g.place
-  pub knows : g.stuck ≡ false → Known t g out (on_lines t g)
+  pub knows : Known t g out (on_lines t g)
 
-pub lines-begin : {t : List ℕ} {g : Reader} (out : List ℕ) → Headed t g → AtLine t g out
-lines-begin out h = record { within = h.within; fails = h.fails; knows = h.knows out }
+pub lines-begin : {t : List ℕ} {g : Reader} (out : List ℕ) → HeadedAt t g → AtLine t g out
+lines-begin out h = record { within = h.within; knows = h.knows out }
 
-pub lines_go_on : {t out : List ℕ} {i : ℕ} {h : Reader} → Stood t i h out → AtLine t h out
-lines_go_on s = record { within = s.within; fails = s.fails; knows = s.knows }
+pub lines_go_on : {t out : List ℕ} {i : ℕ} {h : Reader} → StoodAt t i h out → AtLine t h out
+lines_go_on s = record { within = s.within; knows = s.knows }
 
--- a reader that goes on is neither stuck nor at the end
-pub record Free (g : Reader) : Type 0 where
-  pub not_stuck : g.stuck ≡ false
-  pub not_ended : g.ended ≡ false
-
-pub free : (g : Reader) {b : Bool} → b ≡ not (g.stuck || g.ended) → b ≡ true → Free g
-free g e h =
-    let p = or-none g.stuck g.ended (not-true (g.stuck || g.ended) (sym e ∙ h)) in
-    record { not_stuck = p.0; not_ended = p.1 }
-
-pub lines_end : {t out : List ℕ} {g : Reader} {b : Bool} → AtLine t g out → b ≡ not (g.stuck || g.ended) → b ≡ false → Finished t g out
+pub lines_end : {t out : List ℕ} {g : Reader} → AtLine t g out → g.ended ≡ true → Known t g out drawn
 unfolding on_lines ◌if◌else◌
-lines_end {t} {out} {g} {b} s e h =
-    record {
-      fails = s.fails;
-      draws = λ z.
-          let k = s.knows z in
-          let y : (g.stuck || g.ended) ≡ true = not-false (g.stuck || g.ended) (sym e ∙ h) in
-          let n : g.ended ≡ true = rw z at y in
-          known_on k (rw n);
-    }
+lines_end s h = known_on s.knows (rw h)
 
 -- what a reader has before it
 abbrev pub ahead : List ℕ → Reader → ℕ
-ahead t g = length t - g.place + cond (g.stuck || g.ended) 0 1
+ahead t g = length t - g.place + cond g.ended 0 1
 
-pub lines_less : {t out : List ℕ} (g : Reader) {h : Reader} → Free g → Stood t g.place h out → ahead t h < ahead t g
-lines_less {t} {out} g {h} f s = rw (f.not_stuck, f.not_ended) (split (h.stuck || h.ended) refl)
+pub lines_less : {t out : List ℕ} (g : Reader) {h : Reader} → g.ended ≡ false → StoodAt t g.place h out → ahead t h < ahead t g
+lines_less {t} {out} g {h} f s = rw f (split h.ended refl)
   where
-    split : (b : Bool) → (h.stuck || h.ended) ≡ b → length t - h.place + cond b 0 1 < length t - g.place + 1
+    split : (b : Bool) → h.ended ≡ b → length t - h.place + cond b 0 1 < length t - g.place + 1
     split true e = omega (arith, s.onward)
     split false e = let o = s.further e in omega (arith, o, s.within)
 
 -- ---- a line's name, from what the code has in hand
-pub named-fails : {t out : List ℕ} {g h : Reader} {j x : ℕ} {z s v c : Cursor} → Known t g out (on_lines t g) → g.ended ≡ false → Skipped t g.place j →
+pub named-fails : {t out : List ℕ} {g : Reader} {j x : ℕ} {z s v c : Cursor} {e : Refused} → Known t g out (on_lines t g) → g.ended ≡ false → Skipped t g.place j →
     x ≡ peeked t j → (x ≡ 125 → ⊥) → z ≡ stands j → Followed t z (text "s") s → Counted t s false v → Followed t v (text "~") c → c.stuck ≡ true →
-    (h.place ≡ c.place) × (h.stuck ≡ true) → Stood t g.place h out
+    e ≡ record { refusal = NoDrawing; place = c.place } → NoneAt e (reading t) × (e.place ≤ length t) × (g.place ≤ e.place)
 named-fails {v = v} {c = c} k e p ex n ez f y q st hh =
-    line-fails (omega (arith, p.onward, f.onward, y.onward, q.onward, ap (λ (z : Cursor). z.place) ez)) q.within
-    (name-fails c v.value (name_leads k e p ex n ez f y q) st) hh
+    line_refused _ (omega (arith, p.onward, f.onward, y.onward, q.onward, ap (λ (z : Cursor). z.place) ez)) q.within (name-fails c v.value (name_leads k e p ex n ez f y q) st) hh
 
 pub named-goes : {t out : List ℕ} {g : Reader} {j x : ℕ} {z s v c : Cursor} → Known t g out (on_lines t g) → g.ended ≡ false → Skipped t g.place j →
     x ≡ peeked t j → (x ≡ 125 → ⊥) → z ≡ stands j → Followed t z (text "s") s → Counted t s false v → Followed t v (text "~") c → c.stuck ≡ false →

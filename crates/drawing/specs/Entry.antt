@@ -1,7 +1,7 @@
 -- What `draw` and `undraw` answer and leave, for every table, text and lent bytes (Q-1, "Refusals: 60 .. then 2, 4 to 8 .. then
 -- 61" and "The writer gives 1 to 8, then 61"; Q-7, "Q-1's drawings .. give 9").
 use Rattle.std.specs.Prelude.{List, [], ◌++◌, ℕ}
-use Rattle.fault.specs.declared.Verdict.{Verdict}
+use Rattle.fault.specs.Fault.{Verdict}
 use Rattle.fault.specs.declared.Answer.{Answer}
 use Rattle.fault.specs.Fault.{verdict, refused, ◌if◌else◌}
 use Rattle.table.specs.Refusals.{counts_outside, table_fault}

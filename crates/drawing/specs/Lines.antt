@@ -1,6 +1,8 @@
 -- Lines of a drawing: what a reader knows where it stands.
-use Rattle.std.specs.Prelude.{◌≡◌, true, false, ◌||◌, List, [], ◌∷◌, ℕ, ◌+◌, ◌≤◌, length}
+use Rattle.std.specs.Prelude.{◌≡◌, true, false, Result, Ok, Err, List, [], ◌∷◌, ℕ, ◌+◌, ◌≤◌, length}
 use Rattle.fault.specs.Fault.{◌if◌else◌}
+use Rattle.fault.specs.declared.refusals.Refused.{Refused}
+use Rattle.fault.specs.declared.refusals.Refusal.TheVariants.{NoDrawing}
 use Rattle.table.specs.Table.{records_bytes}
 use Rattle.ink.specs.Ink.{stored}
 use Rattle.decimal.specs.Numbers.{text}
@@ -51,29 +53,43 @@ pub record Arrow (t : List ℕ) (i v : ℕ) (d : Cursor) (n : ℕ) (out left : L
   pub bytes_put : left ≡ stored out n (v ∷ d.value ∷ [])
   pub on : (k : List Item) (r : Gathered) → ended k ≡ false → from t i (plan (text ">~s") (num cell ∷ k)) r none ≡ reached t d k (put cell d.value r)
 
+-- no drawing goes on at the place of e
+pub record NoneAt (e : Refused) (o : Outcome) : Type 0 where
+  pub fails : o ≡ fault e.place
+  pub refusal : e.refusal ≡ NoDrawing
+
 -- h stands after a line that began at i
-pub record Stood (t : List ℕ) (i : ℕ) (h : Reader) (out : List ℕ) : Type 0 where
+pub record StoodAt (t : List ℕ) (i : ℕ) (h : Reader) (out : List ℕ) : Type 0 where
   pub within : h.place ≤ length t
   pub onward : i ≤ h.place
-  pub further : (h.stuck || h.ended) ≡ false → i + 1 ≤ h.place
-  pub fails : h.stuck ≡ true → reading t ≡ fault h.place
-  pub knows : h.stuck ≡ false → Known t h out (on_lines t h)
+  pub further : h.ended ≡ false → i + 1 ≤ h.place
+  pub knows : Known t h out (on_lines t h)
+
+abbrev pub Stood : List ℕ → ℕ → Result Reader Refused → List ℕ → Type 0
+Stood t i (Ok h) out = StoodAt t i h out
+Stood t i (Err e) out = NoneAt e (reading t) × (e.place ≤ length t) × (i ≤ e.place)
 
 -- g stands after the header, with whatever bytes lent
-pub record Headed (t : List ℕ) (g : Reader) : Type 0 where
+pub record HeadedAt (t : List ℕ) (g : Reader) : Type 0 where
   pub within : g.place ≤ length t
-  pub fails : g.stuck ≡ true → reading t ≡ fault g.place
-  pub knows : (out : List ℕ) → g.stuck ≡ false → Known t g out (on_lines t g)
+  pub knows : (out : List ℕ) → Known t g out (on_lines t g)
 
--- h stands after the end that the bracket before i began
-pub record Closed (t : List ℕ) (g : Reader) (i : ℕ) (h : Reader) : Type 0 where
+abbrev pub Headed : List ℕ → Result Reader Refused → Type 0
+Headed t (Ok g) = HeadedAt t g
+Headed t (Err e) = NoneAt e (reading t) × (e.place ≤ length t)
+
+-- h stands after the closing bracket, which ends before i
+pub record ClosedAt (t : List ℕ) (g : Reader) (i : ℕ) (h : Reader) : Type 0 where
   pub within : h.place ≤ length t
   pub onward : i ≤ h.place
-  pub last : (h.stuck || h.ended) ≡ true
-  pub fails : h.stuck ≡ true → (r : Gathered) → on_end t i r ≡ fault h.place
-  pub ends : h.stuck ≡ false → (out : List ℕ) → Known t g out (on_end t i) → Known t h out (on_lines t h)
+  pub last : h.ended ≡ true
+  pub ends : (out : List ℕ) → Known t g out (on_end t i) → Known t h out (on_lines t h)
 
--- g stands at the end of the text, or where no drawing goes on
-pub record Finished (t : List ℕ) (g : Reader) (out : List ℕ) : Type 0 where
-  pub fails : g.stuck ≡ true → reading t ≡ fault g.place
-  pub draws : g.stuck ≡ false → Known t g out drawn
+abbrev pub Closed : List ℕ → Reader → ℕ → Result Reader Refused → Type 0
+Closed t g i (Ok h) = ClosedAt t g i h
+Closed t g i (Err e) = ((r : Gathered) → NoneAt e (on_end t i r)) × (e.place ≤ length t) × (i ≤ e.place)
+
+-- g stands at the end of the text; or no drawing goes on where the refusal says
+abbrev pub Finished : List ℕ → Result Reader Refused → List ℕ → Type 0
+Finished t (Ok g) out = Known t g out drawn
+Finished t (Err e) out = NoneAt e (reading t)

@@ -2,6 +2,7 @@
 #![tactic(auto)]
 
 ghost use Rattle.std.specs.Prelude.{◌≡◌, ◌≤◌, ◌<◌, length};
+ghost use Rattle.fault.specs.Refusals.{answer_of};
 ghost use Rattle.ink.specs.Ink.{stored};
 ghost use Rattle.layout.specs.Layout.{types_in};
 ghost use Rattle.table.specs.Table.{most_records, most_table};
@@ -12,11 +13,13 @@ ghost use Rattle.trailer.specs.Trailer.{trailer_for};
 ghost use Rattle.drawing.specs.Entry.{draw_answer, draw_bytes, undraw_answer, undraw_bytes};
 
 use fault::Answer;
+use fault::refusals::{Refusal, Refused};
 
 pub mod pieces; // a text read piece by piece
 pub mod lines; // and line by line
 
 // Where reading stands: at which byte, whether no drawing goes on there, and the number read last.
+// Stays: `pieces::follow`, `number` and `label` take a cursor that is stuck and say what reading comes to from there; with a Result and ? they would ask for a free one.
 #[derive(Clone, Copy)]
 pub struct Cursor {
     pub place: usize,
@@ -28,7 +31,6 @@ pub struct Cursor {
 #[derive(Clone, Copy)]
 pub struct Reader {
     pub place: usize,
-    pub stuck: bool,
     pub ended: bool,
     pub types: usize,
     pub factor: usize,
@@ -42,17 +44,21 @@ pub fn draw(table: &[u8], out: &mut [u8]) -> Answer
     ensures value { result ≡ draw_answer table.now (length out.old) }
     ensures out_after { out.new ≡ draw_bytes table.now out.old }
 {
-    let v = table::table_fault(table);
-    if v.number != 0 {
-        return fault::answered(v.number, v.place, 0);
-    }
+    Answer::from(drawn(table, out))
+}
+
+fn drawn(table: &[u8], out: &mut [u8]) -> Result<usize, Refused>
+    ensures value { answer_of result ≡ draw_answer table.now (length out.old) }
+    ensures out_after { out.new ≡ draw_bytes table.now out.old }
+{
+    table::table_fault(table)?;
     // Into no bytes: only to learn how many there are.
     let n = pen::write(table, &mut out[..0]);
     if out.len() < n {
-        return fault::answered(61, 0, 0);
+        return Err(Refusal::DrawingShort.at(0));
     }
     pen::write(table, out);
-    fault::answered(0, 0, n)
+    Ok(n)
 }
 
 // Writes the table that a text draws into the lent bytes: refusal, place, bytes written.
@@ -61,21 +67,18 @@ pub fn undraw(text: &[u8], out: &mut [u8]) -> Answer
     ensures out_after { out.new ≡ undraw_bytes text.now out.old }
 {
     let mut table = [0u8; table::MOST_BYTES];
-    undraw_in(text, &mut table, out)
+    Answer::from(undraw_in(text, &mut table, out))
 }
 
 // The same, with room for the largest table.
-fn undraw_in(text: &[u8], table: &mut [u8], out: &mut [u8]) -> Answer
+fn undraw_in(text: &[u8], table: &mut [u8], out: &mut [u8]) -> Result<usize, Refused>
     requires { length table.old ≡ most_table }
-    ensures value { result ≡ undraw_answer text.now (length out.old) }
+    ensures value { answer_of result ≡ undraw_answer text.now (length out.old) }
     ensures out_after { out.new ≡ undraw_bytes text.now out.old }
 {
-    let g = lines::read(text, table);
-    if g.stuck {
-        return fault::answered(60, g.place, 0);
-    }
+    let g = lines::read(text, table)?;
     if counts_outside(g) {
-        return fault::answered(2, 0, 0);
+        return Err(Refusal::CountsOutside.at(0));
     }
     close(g, table);
     let n = g.made + fault::TRAILER_BYTES;
@@ -100,17 +103,14 @@ fn close(g: Reader, table: &mut [u8])
 }
 
 // The table into the lent bytes, if it is one and has room there.
-fn give(table: &[u8], out: &mut [u8]) -> Answer
-    ensures value { result ≡ given 61 (table_fault table.now) table.now (length out.old) }
+fn give(table: &[u8], out: &mut [u8]) -> Result<usize, Refused>
+    ensures value { answer_of result ≡ given 61 (table_fault table.now) table.now (length out.old) }
     ensures out_after { out.new ≡ left (table_fault table.now) table.now out.old }
 {
-    let v = table::table_fault(table);
-    if v.number != 0 {
-        return fault::answered(v.number, v.place, 0);
-    }
+    table::table_fault(table)?;
     if out.len() < table.len() {
-        return fault::answered(61, 0, 0);
+        return Err(Refusal::DrawingShort.at(0));
     }
     ink::put_all(out, 0, table);
-    fault::answered(0, 0, table.len())
+    Ok(table.len())
 }

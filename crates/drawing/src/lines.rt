@@ -1,29 +1,34 @@
 // A drawing line by line. What is read of the table's records is kept in `out`, so far as it fits.
-ghost use Rattle.std.specs.Prelude.{◌≡◌, true, false, ◌||◌, not, ◌+◌, ◌≤◌, ◌<◌, length};
+ghost use Rattle.std.specs.Prelude.{◌≡◌, false, ◌+◌, ◌≤◌, ◌<◌, length};
+ghost use Rattle.fault.specs.declared.refusals.Refusal.TheVariants.{NoDrawing};
 ghost use Rattle.drawing.specs.Lines.{Known, Arrow, Stood, Headed, Closed, Finished, on_lines, on_name, on_state, on_rule};
 
 use crate::{Cursor, Reader, pieces};
+use fault::refusals::{Refusal, Refused};
 
 // The whole text.
-pub fn read(text: &[u8], out: &mut [u8]) -> Reader
+pub fn read(text: &[u8], out: &mut [u8]) -> Result<Reader, Refused>
     ensures { (Finished text.now result out.new) × (length out.new ≡ length out.old) }
 {
-    let mut g = header(text);
-    while going(g) {
-        g = line(text, g, out);
+    let mut g = header(text)?;
+    while !g.ended {
+        g = line(text, g, out)?;
     }
-    g
+    Ok(g)
 }
 
-// Neither stuck nor at the end.
-fn going(g: Reader) -> bool
-    ensures { result ≡ not (g.stuck || g.ended) }
+// No drawing goes on there.
+fn no_drawing(place: usize) -> Refused
+    ensures { result ≡ record { refusal = NoDrawing; place = place } }
 {
-    !(g.stuck | g.ended)
+    Refused {
+        refusal: Refusal::NoDrawing,
+        place,
+    }
 }
 
 // From the text's first byte to the first line.
-fn header(text: &[u8]) -> Reader
+fn header(text: &[u8]) -> Result<Reader, Refused>
     ensures { Headed text.now result }
 {
     let a = pieces::follow(text, pieces::stand(0), b"~digraph_~t~{~T~=~");
@@ -31,21 +36,23 @@ fn header(text: &[u8]) -> Reader
     let b = pieces::follow(text, types, b"~;~k~=~");
     let factor = pieces::number(text, b, false);
     let c = pieces::follow(text, factor, b"~;");
-    Reader {
+    if c.stuck {
+        return Err(no_drawing(c.place));
+    }
+    Ok(Reader {
         place: c.place,
-        stuck: c.stuck,
         ended: false,
         types: types.value,
         factor: factor.value,
         states: 0,
         rules: 0,
         made: 0,
-    }
+    })
 }
 
 // One line, or the end.
-fn line(text: &[u8], g: Reader, out: &mut [u8]) -> Reader
-    requires { (g.place ≤ length text.now) × (g.stuck ≡ false) × (g.ended ≡ false) × (Known text.now g out.old (on_lines text.now g)) }
+fn line(text: &[u8], g: Reader, out: &mut [u8]) -> Result<Reader, Refused>
+    requires { (g.place ≤ length text.now) × (g.ended ≡ false) × (Known text.now g out.old (on_lines text.now g)) }
     ensures { Stood text.now g.place result out.new }
 {
     let at = pieces::skip(text, g.place);
@@ -56,50 +63,29 @@ fn line(text: &[u8], g: Reader, out: &mut [u8]) -> Reader
     let name = pieces::number(text, s, false);
     let c = pieces::follow(text, name, b"~");
     if c.stuck {
-        return failed(g, c.place);
+        return Err(no_drawing(c.place));
     }
     named(text, g, c.place, name.value, out)
 }
 
 // After the closing bracket only blanks may follow.
-fn end(text: &[u8], g: Reader, i: usize) -> Reader
+fn end(text: &[u8], g: Reader, i: usize) -> Result<Reader, Refused>
     requires { (i ≤ length text.now) × (g.place + 1 ≤ i) }
     ensures { Closed text.now g i result }
 {
     let at = pieces::skip(text, i);
     if at < text.len() {
-        return failed(g, at);
+        return Err(no_drawing(at));
     }
-    Reader {
+    Ok(Reader {
         place: at,
-        stuck: false,
         ended: true,
-        types: g.types,
-        factor: g.factor,
-        states: g.states,
-        rules: g.rules,
-        made: g.made,
-    }
-}
-
-// The reader where no drawing goes on.
-fn failed(g: Reader, place: usize) -> Reader
-    ensures { (result.place ≡ place) × (result.stuck ≡ true) }
-{
-    Reader {
-        place,
-        stuck: true,
-        ended: false,
-        types: g.types,
-        factor: g.factor,
-        states: g.states,
-        rules: g.rules,
-        made: g.made,
-    }
+        ..g
+    })
 }
 
 // A line whose first name is v: of a state, if that is the next and no rule came, or of a rule.
-fn named(text: &[u8], g: Reader, i: usize, v: usize, out: &mut [u8]) -> Reader
+fn named(text: &[u8], g: Reader, i: usize, v: usize, out: &mut [u8]) -> Result<Reader, Refused>
     requires { (i ≤ length text.now) × (g.place + 1 ≤ i) × (v < 256) × (Known text.now g out.old (on_name text.now i v)) }
     ensures { Stood text.now g.place result out.new }
 {
@@ -110,11 +96,11 @@ fn named(text: &[u8], g: Reader, i: usize, v: usize, out: &mut [u8]) -> Reader
     if x == 45 {
         return rule_line(text, g, i + 1, v, out);
     }
-    failed(g, i)
+    Err(no_drawing(i))
 }
 
 // The rest of a state's line, after the bracket.
-fn state_line(text: &[u8], g: Reader, i: usize, v: usize, out: &mut [u8]) -> Reader
+fn state_line(text: &[u8], g: Reader, i: usize, v: usize, out: &mut [u8]) -> Result<Reader, Refused>
     requires { (i ≤ length text.now) × (g.place + 1 ≤ i) × (Known text.now g out.old (on_state text.now i v)) }
     ensures { Stood text.now g.place result out.new }
 {
@@ -126,20 +112,20 @@ fn state_line(text: &[u8], g: Reader, i: usize, v: usize, out: &mut [u8]) -> Rea
         out,
         g.made,
     );
-    Reader {
-        place: c.place,
-        stuck: c.stuck,
-        ended: false,
-        types: g.types,
-        factor: g.factor,
-        states: g.states + 1,
-        rules: g.rules,
-        made: g.made + table::STATE_BYTES,
+    if c.stuck {
+        return Err(no_drawing(c.place));
     }
+    Ok(Reader {
+        place: c.place,
+        ended: false,
+        states: g.states + 1,
+        made: g.made + table::STATE_BYTES,
+        ..g
+    })
 }
 
 // The rest of a rule's line, after the minus of its arrow.
-fn rule_line(text: &[u8], g: Reader, i: usize, v: usize, out: &mut [u8]) -> Reader
+fn rule_line(text: &[u8], g: Reader, i: usize, v: usize, out: &mut [u8]) -> Result<Reader, Refused>
     requires { (i ≤ length text.now) × (g.place + 1 ≤ i) × (v < 256) × (Known text.now g out.old (on_rule text.now i v)) }
     ensures { Stood text.now g.place result out.new }
 {
@@ -154,16 +140,16 @@ fn rule_line(text: &[u8], g: Reader, i: usize, v: usize, out: &mut [u8]) -> Read
         out,
         g.made + layout::END_BYTES,
     );
-    Reader {
+    if c.stuck {
+        return Err(no_drawing(c.place));
+    }
+    Ok(Reader {
         place: c.place,
-        stuck: c.stuck,
         ended: false,
-        types: g.types,
-        factor: g.factor,
-        states: g.states,
         rules: g.rules + 1,
         made: g.made + layout::END_BYTES + weights,
-    }
+        ..g
+    })
 }
 
 // The rest of an arrow and the name it leads to; the two names' numbers are put at n.

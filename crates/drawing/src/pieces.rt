@@ -46,15 +46,12 @@ pub fn skip(text: &[u8], i: usize) -> usize
     requires { i ≤ length text.now }
     ensures { Skipped text.now i result }
 {
-    let n = text.len();
-    let mut j = i;
-    while j < n {
+    for j in i..text.len() {
         if !is_blank(fault::byte_at(text, j)) {
             return j;
         }
-        j += 1;
     }
-    j
+    text.len()
 }
 
 // A quoted plan, code by code: ~ is a gap, _ a blank that must be, any other the byte itself.
@@ -62,12 +59,9 @@ pub fn follow(text: &[u8], c: Cursor, plan: &[u8]) -> Cursor
     requires { c.place ≤ length text.now }
     ensures { Followed text.now c plan.now result }
 {
-    let n = plan.len();
     let mut d = c;
-    let mut j = 0;
-    while j < n {
-        d = item(text, d, fault::byte_at(plan, j));
-        j += 1;
+    for code in plan {
+        d = item(text, d, usize::from(*code));
     }
     d
 }
@@ -189,12 +183,10 @@ fn numbers(text: &[u8], c: Cursor, count: usize, shape: Shape, out: &mut [u8], n
     ensures { Labelled text.now c count (plans.numbers shape count 0) result n out.old out.new }
 {
     let mut d = c;
-    let mut j = 0;
     // The place of number j in its group.
     let mut i = 0;
-    while j < count {
+    for j in 0..count {
         d = number_at(text, d, j, i, i < shape.signed, out, n + j);
-        j += 1;
         i = dot::next(i, shape.group);
     }
     d

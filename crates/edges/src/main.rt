@@ -1,9 +1,9 @@
 // Bundles at the edges of reading, each printed with its refusal and place. The file stdout has what the outline says.
 #![tactic(auto)]
 
-ghost use Rattle.std.specs.Prelude.{◌≤◌, ◌<◌, length};
+ghost use Rattle.std.specs.Prelude.{◌<◌, length};
 
-use fault::Verdict;
+use fault::refusals::Refused;
 use std::io;
 
 // A table of zero bytes but for the first state's initial flag, then a schedule of zero bytes, each with its trailer.
@@ -21,12 +21,25 @@ struct Case {
     form: u8,
 }
 
+// Five steps of four boards with a table of four states, seven rules and one type.
+const USUAL: Case = Case {
+    states: 4,
+    rules: 7,
+    types: 1,
+    k: 3,
+    starts: 3,
+    steps: 5,
+    n: 4,
+    t: 1,
+    f: 1,
+    form: 0,
+};
+
 fn main(rt: HostRuntime) -> io::Result<()> {
-    for length in 0..17 {
-        raw(&rt, length, 0)?;
-    }
-    for length in 0..17 {
-        raw(&rt, length, 255)?;
+    for byte in [0, 255] {
+        for length in 0..17 {
+            raw(&rt, length, byte)?;
+        }
     }
     table_counts(&rt)?;
     admitted(&rt)?;
@@ -36,125 +49,133 @@ fn main(rt: HostRuntime) -> io::Result<()> {
     states(&rt)?;
     rules(&rt)?;
     starts(&rt)?;
-    lent(&rt, 0)?;
-    lent(&rt, 7)?;
-    lent(&rt, 8)?;
-    lent(&rt, 9)
+    for n in [0, 7, 8, 9] {
+        lent(&rt, n)?;
+    }
+    Ok(())
 }
 
 // Counts and k at 0, 1, the limit and one more, the types byte in both editions; then all limits at once. Zero is no divisor.
 fn table_counts(rt: &impl Print) -> io::Result<()> {
-    table(rt, 0, 7, 1, 3)?;
-    table(rt, 1, 7, 1, 3)?;
-    table(rt, 16, 7, 1, 3)?;
-    table(rt, 17, 7, 1, 3)?;
-    table(rt, 4, 0, 1, 3)?;
-    table(rt, 4, 1, 1, 3)?;
-    table(rt, 4, 64, 1, 3)?;
-    table(rt, 4, 65, 1, 3)?;
-    table(rt, 4, 7, 0, 3)?;
-    table(rt, 4, 7, 1, 3)?;
-    table(rt, 4, 7, 4, 3)?;
-    table(rt, 4, 7, 5, 3)?;
-    table(rt, 4, 7, 15, 3)?;
-    table(rt, 4, 7, 16, 3)?;
-    table(rt, 4, 7, 17, 3)?;
-    table(rt, 4, 7, 20, 3)?;
-    table(rt, 4, 7, 21, 3)?;
-    table(rt, 4, 7, 32, 3)?;
-    table(rt, 4, 7, 255, 3)?;
-    table(rt, 4, 7, 1, 0)?;
-    table(rt, 4, 7, 1, 1)?;
-    table(rt, 4, 7, 1, 8)?;
-    table(rt, 4, 7, 1, 9)?;
-    table(rt, 16, 64, 4, 8)
+    for (states, rules, types, k) in [
+        (0, 7, 1, 3),
+        (1, 7, 1, 3),
+        (16, 7, 1, 3),
+        (17, 7, 1, 3),
+        (4, 0, 1, 3),
+        (4, 1, 1, 3),
+        (4, 64, 1, 3),
+        (4, 65, 1, 3),
+        (4, 7, 0, 3),
+        (4, 7, 1, 3),
+        (4, 7, 4, 3),
+        (4, 7, 5, 3),
+        (4, 7, 15, 3),
+        (4, 7, 16, 3),
+        (4, 7, 17, 3),
+        (4, 7, 20, 3),
+        (4, 7, 21, 3),
+        (4, 7, 32, 3),
+        (4, 7, 255, 3),
+        (4, 7, 1, 0),
+        (4, 7, 1, 1),
+        (4, 7, 1, 8),
+        (4, 7, 1, 9),
+        (16, 64, 4, 8),
+    ] {
+        table(rt, states, rules, types, k)?;
+    }
+    Ok(())
 }
 
 // n, t, f and form at their edges; k·t = 256, which is 0 at 8 bits.
 fn admitted(rt: &impl Print) -> io::Result<()> {
-    schedule(rt, 3, 0, 5, 0, 0, 0, 0)?;
-    schedule(rt, 3, 1, 5, 1, 0, 0, 0)?;
-    schedule(rt, 3, 64, 5, 64, 21, 0, 0)?;
-    schedule(rt, 3, 43, 5, 64, 21, 21, 0)?;
-    schedule(rt, 3, 65, 5, 65, 21, 0, 0)?;
-    schedule(rt, 3, 64, 5, 64, 22, 0, 0)?;
-    schedule(rt, 3, 3, 5, 3, 1, 0, 0)?;
-    schedule(rt, 3, 4, 5, 4, 1, 0, 0)?;
-    schedule(rt, 3, 2, 5, 4, 1, 2, 0)?;
-    schedule(rt, 1, 1, 5, 64, 63, 63, 0)?;
-    schedule(rt, 1, 64, 5, 64, 64, 0, 0)?;
-    schedule(rt, 8, 64, 5, 64, 32, 0, 0)?;
-    schedule(rt, 1, 64, 5, 64, 255, 0, 0)?;
-    schedule(rt, 3, 3, 5, 4, 1, 1, 1)?;
-    schedule(rt, 3, 3, 5, 4, 1, 1, 2)?;
-    schedule(rt, 3, 3, 5, 4, 1, 1, 3)?;
-    schedule(rt, 3, 3, 5, 4, 1, 1, 255)
+    for (k, starts, steps, n, t, f, form) in [
+        (3, 0, 5, 0, 0, 0, 0),
+        (3, 1, 5, 1, 0, 0, 0),
+        (3, 64, 5, 64, 21, 0, 0),
+        (3, 43, 5, 64, 21, 21, 0),
+        (3, 65, 5, 65, 21, 0, 0),
+        (3, 64, 5, 64, 22, 0, 0),
+        (3, 3, 5, 3, 1, 0, 0),
+        (3, 4, 5, 4, 1, 0, 0),
+        (3, 2, 5, 4, 1, 2, 0),
+        (1, 1, 5, 64, 63, 63, 0),
+        (1, 64, 5, 64, 64, 0, 0),
+        (8, 64, 5, 64, 32, 0, 0),
+        (1, 64, 5, 64, 255, 0, 0),
+        (3, 3, 5, 4, 1, 1, 1),
+        (3, 3, 5, 4, 1, 1, 2),
+        (3, 3, 5, 4, 1, 1, 3),
+        (3, 3, 5, 4, 1, 1, 255),
+    ] {
+        schedule(rt, k, starts, steps, n, t, f, form)?;
+    }
+    Ok(())
 }
 
 // Steps at their edges; starts that are not n-f.
 fn lengths(rt: &impl Print) -> io::Result<()> {
-    schedule(rt, 3, 3, 0, 4, 1, 1, 0)?;
-    schedule(rt, 3, 3, 1, 4, 1, 1, 0)?;
-    schedule(rt, 3, 3, 4096, 4, 1, 1, 0)?;
-    schedule(rt, 3, 3, 4097, 4, 1, 1, 0)?;
-    schedule(rt, 3, 2, 5, 4, 1, 1, 0)?;
-    schedule(rt, 3, 4, 5, 4, 1, 1, 0)
+    for (starts, steps) in [(3, 0), (3, 1), (3, 4096), (3, 4097), (2, 5), (4, 5)] {
+        schedule(rt, 3, starts, steps, 4, 1, 1, 0)?;
+    }
+    Ok(())
 }
 
 // The schedule's distances: no multiple of 4, too short, too far, before the start of the bundle.
 fn schedule_distances(rt: &impl Print) -> io::Result<()> {
-    changed(rt, 1, 8, 19, 0, 0, 0, 0)?;
-    changed(rt, 1, 8, 21, 0, 0, 0, 0)?;
-    changed(rt, 1, 8, 24, 0, 0, 0, 0)?;
-    changed(rt, 1, 7, 255, 0, 0, 0, 0)?;
-    changed(rt, 1, 6, 22, 0, 0, 0, 0)?;
-    changed(rt, 1, 6, 24, 0, 0, 0, 0)?;
-    changed(rt, 1, 5, 1, 0, 0, 0, 0)?;
-    changed(rt, 1, 5, 255, 0, 0, 0, 0)
+    changed(rt, 1, &[(8, 19)])?;
+    changed(rt, 1, &[(8, 21)])?;
+    changed(rt, 1, &[(8, 24)])?;
+    changed(rt, 1, &[(7, 255)])?;
+    changed(rt, 1, &[(6, 22)])?;
+    changed(rt, 1, &[(6, 24)])?;
+    changed(rt, 1, &[(5, 1)])?;
+    changed(rt, 1, &[(5, 255)])
 }
 
 // The table's distances: too short, too far, before the start of the table, of the other edition.
 fn table_distances(rt: &impl Print) -> io::Result<()> {
-    changed(rt, 1, 39, 42, 0, 0, 0, 0)?;
-    changed(rt, 1, 39, 44, 0, 0, 0, 0)?;
-    changed(rt, 1, 38, 255, 0, 0, 0, 0)?;
-    changed(rt, 1, 37, 34, 0, 0, 0, 0)?;
-    changed(rt, 1, 37, 36, 0, 0, 0, 0)?;
-    changed(rt, 1, 36, 255, 0, 0, 0, 0)?;
-    changed(rt, 1, 33, 17, 0, 0, 0, 0)?;
-    changed(rt, 17, 33, 1, 0, 0, 0, 0)
+    changed(rt, 1, &[(39, 42)])?;
+    changed(rt, 1, &[(39, 44)])?;
+    changed(rt, 1, &[(38, 255)])?;
+    changed(rt, 1, &[(37, 34)])?;
+    changed(rt, 1, &[(37, 36)])?;
+    changed(rt, 1, &[(36, 255)])?;
+    changed(rt, 1, &[(33, 17)])?;
+    changed(rt, 17, &[(33, 1)])
 }
 
 // Flags, sent masks, initial and sent, none initial; the lowest of two.
 fn states(rt: &impl Print) -> io::Result<()> {
-    changed(rt, 1, 82, 4, 0, 0, 0, 0)?;
-    changed(rt, 1, 76, 4, 0, 0, 0, 0)?;
-    changed(rt, 1, 76, 3, 0, 0, 0, 0)?;
-    changed(rt, 1, 77, 1, 0, 0, 0, 0)?;
-    changed(rt, 1, 77, 2, 0, 0, 0, 0)?;
-    changed(rt, 1, 81, 1, 0, 0, 0, 0)?;
-    changed(rt, 1, 82, 2, 0, 0, 0, 0)?;
-    changed(rt, 1, 75, 255, 80, 255, 0, 0)
+    changed(rt, 1, &[(82, 4)])?;
+    changed(rt, 1, &[(76, 4)])?;
+    changed(rt, 1, &[(76, 3)])?;
+    changed(rt, 1, &[(77, 1)])?;
+    changed(rt, 1, &[(77, 2)])?;
+    changed(rt, 1, &[(81, 1)])?;
+    changed(rt, 1, &[(82, 2)])?;
+    changed(rt, 1, &[(75, 255), (80, 255)])
 }
 
 // No state, a type forgotten, two new types; 7 on rule 1 before 6 on rule 2.
 fn rules(rt: &impl Print) -> io::Result<()> {
-    changed(rt, 1, 74, 4, 0, 0, 0, 0)?;
-    changed(rt, 1, 43, 255, 0, 0, 0, 0)?;
-    changed(rt, 1, 74, 3, 0, 0, 0, 0)?;
-    changed(rt, 1, 64, 3, 75, 1, 0, 0)?;
-    changed(rt, 1, 63, 3, 75, 1, 0, 0)?;
-    changed(rt, 2, 96, 3, 62, 3, 0, 0)?;
-    changed(rt, 2, 96, 1, 62, 3, 0, 0)?;
-    changed(rt, 2, 96, 3, 87, 3, 79, 4)
+    changed(rt, 1, &[(74, 4)])?;
+    changed(rt, 1, &[(43, 255)])?;
+    changed(rt, 1, &[(74, 3)])?;
+    changed(rt, 1, &[(64, 3), (75, 1)])?;
+    changed(rt, 1, &[(63, 3), (75, 1)])?;
+    changed(rt, 2, &[(96, 3), (62, 3)])?;
+    changed(rt, 2, &[(96, 1), (62, 3)])?;
+    changed(rt, 2, &[(96, 3), (87, 3), (79, 4)])
 }
 
 // Starts that are not initial, or no state.
 fn starts(rt: &impl Print) -> io::Result<()> {
-    changed(rt, 1, 31, 1, 0, 0, 0, 0)?;
-    changed(rt, 1, 29, 3, 0, 0, 0, 0)?;
-    changed(rt, 1, 30, 4, 0, 0, 0, 0)?;
-    changed(rt, 1, 30, 255, 0, 0, 0, 0)
+    changed(rt, 1, &[(31, 1)])?;
+    changed(rt, 1, &[(29, 3)])?;
+    changed(rt, 1, &[(30, 4)])?;
+    changed(rt, 1, &[(30, 255)])
 }
 
 // W in a lent part of nine words, of which it needs eight: the answer, then all nine.
@@ -162,8 +183,7 @@ fn lent(rt: &impl Print, n: usize) -> io::Result<()> {
     let bundle = echo::schedule();
     let standing = echo::table();
     let mut words = [9u64; 9];
-    print!(rt; "lent")?;
-    print_next(rt, n)?;
+    print!(rt; "lent {n}")?;
     run_lent(rt, &bundle, &standing, &mut words, n)
 }
 
@@ -178,20 +198,11 @@ fn run_lent<'a>(
         return Ok(());
     }
     let a = engine::run(bundle, standing, &mut words[..n]);
-    print!(rt; ":")?;
-    print_next(rt, a.refusal as usize)?;
-    print_next(rt, a.place as usize)?;
-    print_next(rt, a.count as usize)?;
-    print_words(rt, words)?;
-    println!(rt;)
-}
-
-fn print_words(rt: &impl Print, words: &[u64]) -> io::Result<()> {
-    let n = words.len();
-    for i in 0..n {
-        print_next(rt, words[i] as usize)?;
+    print!(rt; ": {} {} {}", a.refusal, a.place, a.count)?;
+    for word in words.iter() {
+        print!(rt; " {word}")?;
     }
-    Ok(())
+    println!(rt;)
 }
 
 // ---- the three kinds of bundle
@@ -200,20 +211,14 @@ fn raw(rt: &impl Print, length: usize, byte: u8) -> io::Result<()>
     requires { length < 17 }
 {
     let bytes = [byte; 17];
-    print!(rt; "raw")?;
-    print_next(rt, length)?;
-    print_next(rt, byte as usize)?;
+    print!(rt; "raw {length} {byte}")?;
     show(rt, bundle::read_fault(&bytes[..length], b""))
 }
 
 // A table of these counts before a schedule without steps for n = 64, t = 1, f = 1.
 fn table(rt: &impl Print, states: u8, rules: u8, types: u8, k: u8) -> io::Result<()> {
-    print!(rt; "table")?;
-    print_next(rt, states as usize)?;
-    print_next(rt, rules as usize)?;
-    print_next(rt, types as usize)?;
-    print_next(rt, k as usize)?;
-    let c = Case {
+    print!(rt; "table {states} {rules} {types} {k}")?;
+    let case = Case {
         states,
         rules,
         types,
@@ -221,14 +226,12 @@ fn table(rt: &impl Print, states: u8, rules: u8, types: u8, k: u8) -> io::Result
         starts: 63,
         steps: 0,
         n: 64,
-        t: 1,
-        f: 1,
-        form: 0,
+        ..USUAL
     };
-    show(rt, read(c, 0, 0, 0, 0, 0, 0))
+    show(rt, read(case, &[]))
 }
 
-// A table of four states, seven rules, one type and this k before a schedule of these numbers.
+// The usual table with this k before a schedule of these numbers.
 fn schedule(
     rt: &impl Print,
     k: u8,
@@ -239,18 +242,8 @@ fn schedule(
     f: u8,
     form: u8,
 ) -> io::Result<()> {
-    print!(rt; "schedule")?;
-    print_next(rt, k as usize)?;
-    print_next(rt, starts as usize)?;
-    print_next(rt, steps as usize)?;
-    print_next(rt, n as usize)?;
-    print_next(rt, t as usize)?;
-    print_next(rt, f as usize)?;
-    print_next(rt, form as usize)?;
-    let c = Case {
-        states: 4,
-        rules: 7,
-        types: 1,
+    print!(rt; "schedule {k} {starts} {steps} {n} {t} {f} {form}")?;
+    let case = Case {
         k,
         starts,
         steps,
@@ -258,73 +251,33 @@ fn schedule(
         t,
         f,
         form,
+        ..USUAL
     };
-    show(rt, read(c, 0, 0, 0, 0, 0, 0))
+    show(rt, read(case, &[]))
 }
 
-// The same with k = 3, n = 4, t = 1, f = 1 and five steps, and up to three bytes changed: a place, counted back from the
-// end (0: none), and the byte that is put there.
-fn changed(
-    rt: &impl Print,
-    types: u8,
-    i: usize,
-    x: u8,
-    j: usize,
-    y: u8,
-    k: usize,
-    z: u8,
-) -> io::Result<()> {
-    print!(rt; "changed")?;
-    print_next(rt, types as usize)?;
-    print_next(rt, i)?;
-    print_next(rt, x as usize)?;
-    print_next(rt, j)?;
-    print_next(rt, y as usize)?;
-    print_next(rt, k)?;
-    print_next(rt, z as usize)?;
-    let c = Case {
-        states: 4,
-        rules: 7,
-        types,
-        k: 3,
-        starts: 3,
-        steps: 5,
-        n: 4,
-        t: 1,
-        f: 1,
-        form: 0,
-    };
-    show(rt, read(c, i, x, j, y, k, z))
+// The usual bundle with up to three bytes changed: places, counted back from the end, and the bytes that are put there. Three are
+// printed, a change that there is not as 0 0.
+fn changed(rt: &impl Print, types: u8, changes: &[(usize, u8)]) -> io::Result<()> {
+    print!(rt; "changed {types}")?;
+    for i in 0..3 {
+        let (back, byte) = changes.get(i).copied().unwrap_or((0, 0));
+        print!(rt; " {back} {byte}")?;
+    }
+    let case = Case { types, ..USUAL };
+    show(rt, read(case, changes))
 }
 
 // ---- making and reading them
-fn read(c: Case, i: usize, x: u8, j: usize, y: u8, k: usize, z: u8) -> Verdict {
+fn read(case: Case, changes: &[(usize, u8)]) -> Result<(), Refused> {
     let mut bytes = [0u8; 18000];
-    read_in(&mut bytes, c, i, x, j, y, k, z)
-}
-
-fn read_in(
-    bytes: &mut [u8],
-    c: Case,
-    i: usize,
-    x: u8,
-    j: usize,
-    y: u8,
-    k: usize,
-    z: u8,
-) -> Verdict {
-    let end = fill(bytes, c);
-    put_back(bytes, end, i, x);
-    put_back(bytes, end, j, y);
-    put_back(bytes, end, k, z);
-    let n = within(bytes, end);
-    bundle::read_fault(&bytes[..n], b"")
-}
-
-fn within(bytes: &[u8], n: usize) -> usize
-    ensures { result ≤ length bytes.now }
-{
-    if n < bytes.len() { n } else { bytes.len() }
+    let end = fill(&mut bytes, case);
+    for (back, byte) in changes.iter() {
+        if *back <= end {
+            put(&mut bytes, end - *back, *byte);
+        }
+    }
+    bundle::read_fault(&bytes[..end.min(18000)], b"")
 }
 
 // Makes the bundle, and answers its length.
@@ -332,52 +285,48 @@ fn fill(bytes: &mut [u8], c: Case) -> usize
     ensures { result < 5000000000 }
 {
     put(bytes, 0, 1);
-    let rules = fault::times(c.rules as usize, layout::rule_bytes(c.types as usize));
-    let at = 2 * (c.states as usize) + rules;
-    put_trailer(bytes, at, at, rules, c.states, c.rules, c.types, c.k);
-    let steps = 4 * (c.steps as usize);
-    let starts = c.starts as usize;
+    let rules = fault::times(
+        usize::from(c.rules),
+        layout::rule_bytes(usize::from(c.types)),
+    );
+    let at = 2 * usize::from(c.states) + rules;
+    put_trailer(bytes, at, at, rules, [c.states, c.rules, c.types, c.k]);
+    let steps = 4 * usize::from(c.steps);
+    let starts = usize::from(c.starts);
     let end = at + 8 + starts + steps;
-    put_trailer(bytes, end, steps, steps + starts, c.n, c.t, c.f, c.form);
+    put_trailer(bytes, end, steps, steps + starts, [c.n, c.t, c.f, c.form]);
     end + 8
 }
 
-fn put_trailer(bytes: &mut [u8], at: usize, first: usize, second: usize, a: u8, b: u8, c: u8, d: u8)
+// Two distances, of two bytes each, and four numbers.
+fn put_trailer(bytes: &mut [u8], at: usize, first: usize, second: usize, numbers: [u8; 4])
     requires { at < 5000000000 }
 {
-    put(bytes, at, (first % 256) as u8);
-    put(bytes, at + 1, (first / 256 % 256) as u8);
-    put(bytes, at + 2, (second % 256) as u8);
-    put(bytes, at + 3, (second / 256 % 256) as u8);
-    put(bytes, at + 4, a);
-    put(bytes, at + 5, b);
-    put(bytes, at + 6, c);
-    put(bytes, at + 7, d);
-}
-
-fn put_back(bytes: &mut [u8], end: usize, back: usize, byte: u8) {
-    if 0 < back {
-        if back <= end {
-            put(bytes, end - back, byte);
-        }
+    let first = first.to_le_bytes();
+    let second = second.to_le_bytes();
+    let distances = [first[0], first[1], second[0], second[1]];
+    for (i, byte) in distances.iter().enumerate() {
+        put(bytes, at + i, *byte);
+    }
+    for (i, byte) in numbers.iter().enumerate() {
+        put(bytes, at + 4 + i, *byte);
     }
 }
 
 fn put(bytes: &mut [u8], at: usize, byte: u8) {
-    if at < bytes.len() {
-        bytes[at] = byte;
+    if let Some(x) = bytes.get_mut(at) {
+        *x = byte;
     }
 }
 
 // ---- printing
-fn print_next(rt: &impl Print, number: usize) -> io::Result<()> {
-    print!(rt; " ")?;
-    print!(rt; "{number}")
-}
-
-fn show(rt: &impl Print, v: Verdict) -> io::Result<()> {
-    print!(rt; ":")?;
-    print_next(rt, v.number)?;
-    print_next(rt, v.place)?;
-    println!(rt;)
+fn show(rt: &impl Print, read: Result<(), Refused>) -> io::Result<()> {
+    match read {
+        Ok(()) => println!(rt; ": 0 0"),
+        Err(refused) => {
+            let number = refused.refusal.number();
+            let place = refused.place;
+            println!(rt; ": {number} {place}")
+        }
+    }
 }

@@ -7,7 +7,7 @@ use native.Mathlib.Decide.{ℕ_discrete}
 use native.Mathlib.Omega.{arith}
 use lib.ListN.{length}
 use borrow.Author.Tests.{eq-eqb, ne_eqb}
-use Rattle.fault.specs.declared.Verdict.{Verdict}
+use Rattle.fault.specs.Fault.{Verdict}
 use Rattle.fault.specs.Fault.{fine, refused, ◌if◌else◌, ◌▹◌, first_fault}
 use Rattle.fault.proofs.FaultLaws.{Clean, Within, if_passed, if_most, check_within, then_clean, then_within, first-within as firsts-within}
 use Rattle.layout.specs.Layout.{second, second_of, types_in}

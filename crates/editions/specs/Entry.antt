@@ -1,7 +1,7 @@
 -- What `to_second` and `to_first` answer and leave, for every table and lent bytes (Q-8, "Refusals: 32 .. 33 .. 30 .. after the table's own").
 use Rattle.std.specs.Prelude.{Bool, not, List, ℕ, ◌+◌, ◌-◌}
 use Rattle.senders.specs.Tally.{some}
-use Rattle.fault.specs.declared.Verdict.{Verdict}
+use Rattle.fault.specs.Fault.{Verdict}
 use Rattle.fault.specs.declared.Answer.{Answer}
 use Rattle.fault.specs.Tests.{◌differs◌}
 use Rattle.fault.specs.Fault.{fine, refused, ◌if◌else◌, ◌▹◌, first_fault}

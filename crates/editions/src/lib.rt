@@ -4,6 +4,7 @@
 ghost use Rattle.std.specs.Prelude.{◌≡◌, ◌+◌, ◌≤◌, ◌<◌, length};
 ghost use Rattle.senders.specs.Tally.{some};
 ghost use Rattle.fault.specs.Fault.{fine, first_fault};
+ghost use Rattle.fault.specs.Refusals.{code, told, answer_of};
 ghost use Rattle.layout.specs.Layout.{types_in, rule_bytes};
 ghost use Rattle.table.specs.Table.{rules_of, types_of};
 ghost use Rattle.table.specs.Facts.{Sized};
@@ -11,7 +12,8 @@ ghost use Rattle.ink.specs.Ink.{given, left, Put};
 ghost use Rattle.editions.specs.Moved.{bytes_in, types_from, record_in, rules_from, moved_to};
 ghost use Rattle.editions.specs.Entry.{divided_by, rule_divides, to_second_answer, to_second_bytes, to_first_answer, to_first_bytes};
 
-use fault::{Answer, Verdict};
+use fault::Answer;
+use fault::refusals::{Refusal, Refused, lowest};
 use threshold::Weights;
 
 // Writes a table of the first edition in the second, with every e equal to 1: refusal, place, bytes written.
@@ -19,13 +21,17 @@ pub fn to_second(table: &[u8], out: &mut [u8]) -> Answer
     ensures value { result ≡ to_second_answer table.now (length out.old) }
     ensures out_after { out.new ≡ to_second_bytes table.now out.old }
 {
-    let v = table::table_fault(table);
-    if v.number != 0 {
-        return fault::answered(v.number, v.place, 0);
-    }
+    Answer::from(moved_up(table, out))
+}
+
+fn moved_up(table: &[u8], out: &mut [u8]) -> Result<usize, Refused>
+    ensures value { answer_of result ≡ to_second_answer table.now (length out.old) }
+    ensures out_after { out.new ≡ to_second_bytes table.now out.old }
+{
+    table::table_fault(table)?;
     let byte = table::types_byte(table);
     if layout::second(byte) {
-        return fault::answered(33, 0, 0);
+        return Err(Refusal::SameEdition.at(0));
     }
     give(table, byte + layout::SECOND, out)
 }
@@ -35,52 +41,41 @@ pub fn to_first(table: &[u8], out: &mut [u8]) -> Answer
     ensures value { result ≡ to_first_answer table.now (length out.old) }
     ensures out_after { out.new ≡ to_first_bytes table.now out.old }
 {
-    let v = table::table_fault(table);
-    if v.number != 0 {
-        return fault::answered(v.number, v.place, 0);
-    }
-    let w = divided(table);
-    if w.number != 0 {
-        return fault::answered(w.number, w.place, 0);
-    }
+    Answer::from(moved_down(table, out))
+}
+
+fn moved_down(table: &[u8], out: &mut [u8]) -> Result<usize, Refused>
+    ensures value { answer_of result ≡ to_first_answer table.now (length out.old) }
+    ensures out_after { out.new ≡ to_first_bytes table.now out.old }
+{
+    table::table_fault(table)?;
+    divided(table)?;
     let byte = table::types_byte(table);
     if !layout::second(byte) {
-        return fault::answered(33, 0, 0);
+        return Err(Refusal::SameEdition.at(0));
     }
     give(table, byte - layout::SECOND, out)
 }
 
 // ---- 32
 // The lowest rule with an e other than 1.
-fn divided(table: &[u8]) -> Verdict
+fn divided(table: &[u8]) -> Result<(), Refused>
     requires { Sized table.now }
-    ensures { result ≡ first_fault (rule_divides table.now) (rules_of table.now) }
+    ensures { told result ≡ first_fault (rule_divides table.now) (rules_of table.now) }
 {
-    let n = table::rules(table);
-    let mut i = 0;
-    while i < n {
-        let k = rule_divides(table, i);
-        if k != 0 {
-            return Verdict {
-                number: k,
-                place: i,
-            };
-        }
-        i += 1;
-    }
-    Verdict {
-        number: 0,
-        place: 0,
-    }
+    lowest(table::rules(table), |r| rule_divides(table, r))
 }
 
-fn rule_divides(table: &[u8], r: usize) -> usize
+fn rule_divides(table: &[u8], r: usize) -> Result<(), Refusal>
     requires { (Sized table.now) × (r < rules_of table.now) }
-    ensures { result ≡ rule_divides table.now r }
+    ensures { code result ≡ rule_divides table.now r }
 {
     let byte = table::types_byte(table);
     let rule = table::rule(table, table::states(table), byte, r);
-    if divides(rule, byte) { 32 } else { 0 }
+    if divides(rule, byte) {
+        return Err(Refusal::Divides);
+    }
+    Ok(())
 }
 
 // Has a rule's record an e other than 1?
@@ -88,13 +83,10 @@ fn divides(rule: &[u8], byte: usize) -> bool
     requires { (byte < 256) × (length rule.now ≡ rule_bytes byte) }
     ensures { result ≡ some (types_in byte) (divided_by byte rule.now) }
 {
-    let types = layout::types_in(byte);
-    let mut m = 0;
-    while m < types {
+    for m in 0..layout::types_in(byte) {
         if divides_at(rule, byte, m) {
             return true;
         }
-        m += 1;
     }
     false
 }
@@ -110,18 +102,18 @@ fn divides_at(rule: &[u8], byte: usize, m: usize) -> bool
 
 // ---- what is written
 // The table with this types byte into the lent bytes, if it has room there.
-fn give(table: &[u8], byte: usize, out: &mut [u8]) -> Answer
+fn give(table: &[u8], byte: usize, out: &mut [u8]) -> Result<usize, Refused>
     requires { (Sized table.now) × (byte < 256) × (types_in byte ≡ types_of table.now) }
-    ensures value { result ≡ given 30 fine (moved_to byte table.now) (length out.old) }
+    ensures value { answer_of result ≡ given 30 fine (moved_to byte table.now) (length out.old) }
     ensures out_after { out.new ≡ left fine (moved_to byte table.now) out.old }
 {
     let rules = fault::times(table::rules(table), layout::rule_bytes(byte));
     let n = table::STATE_BYTES * table::states(table) + rules + fault::TRAILER_BYTES;
     if out.len() < n {
-        return fault::answered(30, 0, 0);
+        return Err(Refusal::LentShort.at(0));
     }
     write(table, byte, out);
-    fault::answered(0, 0, n)
+    Ok(n)
 }
 
 // States, rules and trailer.
@@ -149,13 +141,10 @@ fn put_rules(table: &[u8], byte: usize, out: &mut [u8], n: usize) -> usize
 {
     let own = table::types_byte(table);
     let states = table::states(table);
-    let rules = table::rules(table);
-    let mut r = 0;
     let mut m = n;
-    while r < rules {
+    for r in 0..table::rules(table) {
         let rule = table::rule(table, states, own, r);
         m = put_rule(rule, own, byte, out, m);
-        r += 1;
     }
     m
 }
@@ -175,12 +164,9 @@ fn put_types(rule: &[u8], own: usize, byte: usize, out: &mut [u8], n: usize) -> 
     requires { (own < 256) × (length rule.now ≡ rule_bytes own) × (n ≤ 131074) }
     ensures { Put out.old n (types_from byte own rule.now (types_in own) 0) result out.new × (result ≤ n + 1020) }
 {
-    let types = layout::types_in(own);
-    let mut m = 0;
     let mut at = n;
-    while m < types {
+    for m in 0..layout::types_in(own) {
         at = put_type(layout::weights(rule, own, m), byte, out, at);
-        m += 1;
     }
     at
 }

@@ -6,7 +6,7 @@ use Prim.Native.Nat.{ℕ, ◌≤◌, ◌<◌}
 use native.Mathlib.Omega.{arith}
 use lib.ListN.{length, drop}
 use borrow.Author.Tests.{eq-eqb, ne_eqb, lt-ltb, le-ltb}
-use Rattle.fault.specs.declared.Verdict.{Verdict}
+use Rattle.fault.specs.Fault.{Verdict}
 use Rattle.fault.specs.declared.Answer.{Answer}
 use Rattle.fault.specs.Tests.{◌below◌, ◌differs◌}
 use Rattle.fault.specs.Fault.{refused, nothing_done, ◌if◌else◌}
@@ -25,7 +25,6 @@ use Rattle.words.specs.Words.{room_of}
 use Rattle.rules.specs.Facts.{Suits}
 use Rattle.rules.specs.Kept.{Kept, ByDesign}
 use Rattle.rules.specs.Design.{design_of}
-use Rattle.engine.specs.declared.Opened.{Opened}
 use Rattle.engine.specs.Design.{sizes_of, sizes_in, design_in}
 use Rattle.engine.specs.Entry.{schedule_of, start_in, ran_with, ran_of, ran_answer, run_answer, run_words}
 use Rattle.engine.specs.Open.{Ready, Opens, Parts}
@@ -45,27 +44,30 @@ module _ (t b : List ℕ) (R : Read t b) where
 
 -- ---- the beginning
 module _ (b standing : List ℕ) {v : Verdict} (e : v ≡ read_fault b standing) where
-  pub opens_refused : {o : Opened} {x y : List ℕ} → (v.number ≡ 0 → ⊥) → o.number ≡ v.number → o.place ≡ v.place → Opens b standing o x y
-  opens_refused n f g = record { number = f ∙ ap (λ (z : Verdict). z.number) e; place = g ∙ ap (λ (z : Verdict). z.place) e; ready = λ z. absurd (n (sym f ∙ z)) }
+  pub opens_refused : {s : Sizes} {x y : List ℕ} → (v.number ≡ 0 → ⊥) → Opens b standing v s x y
+  opens_refused n = record { same = e; ready = λ z. absurd (n z) }
 
   module _ (z : v.number ≡ 0) {t : List ℕ} (g : t ≡ table_in_use b standing) where
     pub opens_read : Read t b
     opens_read = read_by b standing e z g
 
-    pub opens_ready : {o : Opened} {s : Sizes} {x y : List ℕ} {k : ℕ} → s ≡ sizes_of t b → k ≡ t_of b → Kept (design_of s k t) s x y → o.number ≡ v.number → o.place ≡ v.place → o.sizes ≡ s → Opens b standing o x y
-    opens_ready {o} {s} {x} {y} {k} h f K p q r = record {
-      number = p ∙ ap (λ (a : Verdict). a.number) e;
-      place = q ∙ ap (λ (a : Verdict). a.place) e;
-      ready = λ _. subst⁻¹ (λ (a : Sizes). Ready b standing a x y) r (record {
+    pub opens_ready : {s : Sizes} {x y : List ℕ} {k : ℕ} → s ≡ sizes_of t b → k ≡ t_of b → Kept (design_of s k t) s x y → Opens b standing v s x y
+    opens_ready {s} {x} {y} {k} h f K = record {
+      same = e;
+      ready = λ _. record {
         read = subst (λ (a : List ℕ). Read a b) g opens_read;
         sizes = are;
         bounded = (suits t b opens_read h).bounded;
         kept = subst (λ (d : Design). Kept d s x y) (λ i. design_of (are i) (f i) (g i)) K;
-      });
+      };
     }
       where
         are : s ≡ sizes_in b standing
         are = h ∙ ap (λ (a : List ℕ). sizes_of a b) g
+
+-- the same of numbers and rules that are those which were kept
+pub opens_as : {b standing : List ℕ} {v : Verdict} {s s' : Sizes} {x x' y y' : List ℕ} → (s' ≡ s) × (x' ≡ x) × (y' ≡ y) → Opens b standing v s x y → Opens b standing v s' x' y'
+opens_as e O = rw (e.0, e.1, e.2) O
 
 -- a run from the parts that the code has in hand
 pub parts_run : {ss st w : List ℕ} (s : Sizes) (b : List ℕ) → ss ≡ starts_of b → w ≡ start s.types (wide s.level) ss → st ≡ steps_of b → (d : Design) → run s.level d w (steps_in st) ≡ run s.level d (start_in s b) (schedule_of b)
@@ -110,21 +112,21 @@ pub record Entered (b standing lent : List ℕ) (a : Answer) (u : List ℕ) : Ty
   pub words : u ≡ run_words b standing lent
 
 -- what the beginning of a call tells of reading
-module _ {o : Opened} {x y : List ℕ} (b standing : List ℕ) (O : Opens b standing o x y) where
-  pub opens_unread : (o.number ≡ 0 → ⊥) → (read_fault b standing).number ≡ 0 → ⊥
-  opens_unread n z = n (O.number ∙ z)
+module _ {v : Verdict} {s : Sizes} {x y : List ℕ} (b standing : List ℕ) (O : Opens b standing v s x y) where
+  pub opens_unread : (v.number ≡ 0 → ⊥) → (read_fault b standing).number ≡ 0 → ⊥
+  opens_unread n z = n (ap (λ (u : Verdict). u.number) O.same ∙ z)
 
-  pub opens_clean : o.number ≡ 0 → (read_fault b standing).number ≡ 0
-  opens_clean z = sym O.number ∙ z
+  pub opens_clean : v.number ≡ 0 → (read_fault b standing).number ≡ 0
+  opens_clean z = ap (λ (u : Verdict). u.number) (sym O.same) ∙ z
 
-  pub refused_by : (o.number ≡ 0 → ⊥) → ((read_fault b standing).number differs 0) ≡ true
+  pub refused_by : (v.number ≡ 0 → ⊥) → ((read_fault b standing).number differs 0) ≡ true
   refused_by n = ap not (ne_eqb _ 0 (opens_unread n))
 
-  pub read-clean : o.number ≡ 0 → ((read_fault b standing).number differs 0) ≡ false
+  pub read-clean : v.number ≡ 0 → ((read_fault b standing).number differs 0) ≡ false
   read-clean z = ap not (eq-eqb _ 0 (opens_clean z))
 
-  pub nothing_done_lem : {a : Answer} → a ≡ record { refusal = o.number; place = o.place; count = 0 } → a ≡ nothing_done (read_fault b standing)
-  nothing_done_lem f = f ∙ (λ i. record { refusal = O.number i; place = O.place i; count = 0 })
+  pub nothing_done_lem : {a : Answer} → a ≡ nothing_done v → a ≡ nothing_done (read_fault b standing)
+  nothing_done_lem f = f ∙ ap nothing_done O.same
 
 module _ (b standing lent : List ℕ) where
   pub enter-refused : {a : Answer} → ((read_fault b standing).number ≡ 0 → ⊥) → a ≡ nothing_done (read_fault b standing) → Entered b standing lent a lent

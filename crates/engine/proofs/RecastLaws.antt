@@ -12,7 +12,7 @@ use borrow.Author.Tests.{le-ltb, eq-eqb}
 use Rattle.fault.specs.Bytes.{byte_at, u16_at, two_bytes, trailer_of, trailer_bytes, step_bytes, most_steps, most_step_bytes}
 use Rattle.fault.specs.Tests.{◌over◌}
 use Rattle.fault.specs.Fault.{◌if◌else◌}
-use Rattle.fault.specs.declared.Verdict.{Verdict}
+use Rattle.fault.specs.Fault.{Verdict}
 use Rattle.bundle.specs.Bundle.{step_distance, start_distance, n_of, t_of, f_of, form_of, correct_of, front_length, table_in_use, starts_of, steps_at, steps_of, level_of, most_form}
 use Rattle.bundle.specs.Refusals.{no_trailer, out_of_bundle, not_admitted, steps_off, schedule_fault, fault_with, read_fault}
 use Rattle.bundle.specs.Facts.{Trailed, Parted, Read}

@@ -2,11 +2,11 @@
 -- every design that the kept rules stand for, and no word has grown by more than two a step.
 use mathlib.Core.Path.{◌≡◌, refl, sym, ap, ap₂, ◌∙◌, subst⁻¹}
 use mathlib.Core.List.{List, [], ◌∷◌, ◌++◌}
-use Prim.Native.Nat.{ℕ, zero, suc, ◌+◌, ◌*◌, ◌≤◌, ◌<◌}
+use Prim.Native.Nat.{ℕ, zero, suc, ◌+◌, ◌-◌, ◌*◌, ◌≤◌, ◌<◌}
 use native.Mathlib.Decide.{dec_lt}
 use native.Mathlib.Omega.{arith}
-use lib.ListN.{length, get_or, set, take, drop, replicate, length-replicate, replicate-append-replicate}
-use lib.Seq.{length_front, length-take-le, drop_at}
+use lib.ListN.{length, get_or, set, take, drop, replicate, length-replicate, get_or-replicate, replicate-append-replicate}
+use lib.Seq.{ext_get_or, length_front, length-take-le, drop_at}
 use borrow.Author.Tests.{eq-eqb, ne_eqb}
 use Rattle.fault.specs.declared.Answer.{Answer}
 use Rattle.fault.specs.Fault.{◌if◌else◌}
@@ -28,6 +28,14 @@ use Rattle.step.specs.Step.{left_by}
 use Rattle.engine.specs.Entry.{ran_answer}
 
 -- ---- the first configuration
+-- as many words as there were, each of them 0: those before the last, and the last
+pub filled : (n : ℕ) (w : List ℕ) → length w ≡ n → ((j : ℕ) → j < n - 1 → get_or w j 0 ≡ 0) → (0 < n → get_or w (n - 1) 0 ≡ 0) → w ≡ replicate n 0
+filled n w l before last = ext_get_or 0 w (replicate n 0) (l ∙ sym (length-replicate n 0)) (λ j h. go j (omega (arith, l)) (dec_lt j (n - 1)) ∙ sym (get_or-replicate n j 0 0 (omega (arith, l))))
+  where
+    go : (j : ℕ) → j < n → Dec (j < n - 1) → get_or w j 0 ≡ 0
+    go j h (yes m) = before j m
+    go j h (no m) = let e : j ≡ n - 1 = omega arith in rw e (last (omega arith))
+
 -- the starts below i, in front of the words as they were
 module _ (w t : List ℕ) where
   pub placed_long : (i : ℕ) → i ≤ length t → i ≤ length w → length (take i t ++ drop i w) ≡ length w

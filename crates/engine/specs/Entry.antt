@@ -1,8 +1,10 @@
 -- What `run` answers and leaves, for every bundle, standing table and lent words (outline, "Numbers given back").
-use Rattle.std.specs.Prelude.{List, ◌++◌, ℕ, eqb, length, drop}
+use Rattle.std.specs.Prelude.{List, ◌++◌, ℕ, eqb, length, drop, Result, Ok, Err}
 use Rattle.fault.specs.Tests.{◌below◌, ◌differs◌}
 use Rattle.fault.specs.Fault.{refused, nothing_done, ◌if◌else◌}
 use Rattle.fault.specs.declared.Answer.{Answer}
+use Rattle.fault.specs.declared.refusals.Refused.{Refused}
+use Rattle.fault.specs.Refusals.{number_of}
 use Rattle.bundle.specs.Bundle.{table_in_use, starts_of, steps_of}
 use Rattle.bundle.specs.Refusals.{read_fault}
 use Rattle.paper.specs.Paper.{Step}
@@ -34,6 +36,11 @@ ran_of b standing = ran_with (table_in_use b standing) b
 -- a run: a refused step's place is the number of the steps before it
 unfoldable pub ran_answer : Ran → Answer
 ran_answer r = record { refusal = r.refusal; place = 0 if eqb r.refusal 0 else r.accepted; count = r.accepted }
+
+-- the same, of what the code has: the steps accepted, or the refused one and its place
+abbrev pub ran : Result ℕ Refused → Answer
+ran (Ok n) = record { refusal = 0; place = 0; count = n }
+ran (Err e) = record { refusal = number_of e.refusal; place = e.place; count = e.place }
 
 -- what reading refuses; 30: lent output shorter than the words needed; then the steps
 unfoldable pub run_answer : List ℕ → List ℕ → ℕ → Answer

@@ -1,12 +1,12 @@
 -- The one beginning of a call: a bundle is read, and where it is not refused, its numbers and its rules are ready for stepping.
 use Rattle.std.specs.Prelude.{◌≡◌, List, ℕ}
+use Rattle.fault.specs.Fault.{Verdict}
 use Rattle.bundle.specs.Bundle.{correct_of, table_in_use}
 use Rattle.bundle.specs.Refusals.{read_fault}
 use Rattle.bundle.specs.Facts.{Trailed, Parted, Read}
 use Rattle.words.specs.declared.Sizes.{Sizes}
 use Rattle.words.specs.Facts.{Bounded}
 use Rattle.rules.specs.Kept.{Kept}
-use Rattle.engine.specs.declared.Opened.{Opened}
 use Rattle.engine.specs.Design.{sizes_in, design_in}
 
 -- what a bundle that was read gives, with its table in use
@@ -16,10 +16,9 @@ pub record Ready (b standing : List ℕ) (s : Sizes) (ends leasts : List ℕ) : 
   pub bounded : Bounded s
   pub kept : Kept (design_in b standing) s ends leasts
 
-pub record Opens (b standing : List ℕ) (o : Opened) (ends leasts : List ℕ) : Type 0 where
-  pub number : o.number ≡ (read_fault b standing).number
-  pub place : o.place ≡ (read_fault b standing).place
-  pub ready : o.number ≡ 0 → Ready b standing o.sizes ends leasts
+pub record Opens (b standing : List ℕ) (v : Verdict) (s : Sizes) (ends leasts : List ℕ) : Type 0 where
+  pub same : v ≡ read_fault b standing
+  pub ready : v.number ≡ 0 → Ready b standing s ends leasts
 
 -- a bundle whose starts and steps lie where its trailer says, with a start for each board of the numbers
 pub record Parts (s : Sizes) (b : List ℕ) : Type 0 where

@@ -2,94 +2,57 @@
 #![tactic(auto)]
 
 ghost use Rattle.std.specs.Prelude.{◌≡◌, ◌++◌, ◌+◌, ◌/◌, ◌≤◌, ◌<◌, length, drop, replicate};
+ghost use Rattle.fault.specs.Refusals.{told};
 ghost use Rattle.paper.specs.Words.{start};
 ghost use Rattle.paper.specs.Form as forms;
 ghost use Rattle.schedule.specs.Records.{steps_in, Records};
 ghost use Rattle.paper.specs.Run as runs;
 ghost use Rattle.words.specs.Words.{room_of};
-ghost use Rattle.words.specs.Facts.{at_end, Bounded, Holds};
-ghost use Rattle.rules.specs.Kept.{kept_room, ByDesign};
+ghost use Rattle.words.specs.Facts.{at_end, Holds};
+ghost use Rattle.rules.specs.Kept.{ByDesign};
 ghost use Rattle.engine.specs.Design.{sizes_of};
-ghost use Rattle.engine.specs.Entry.{schedule_of, start_in, ran_answer, run_answer, run_words};
+ghost use Rattle.engine.specs.Entry.{schedule_of, start_in, ran, ran_answer, run_answer, run_words};
 ghost use Rattle.engine.specs.Open.{Opens, Parts};
 
 use fault::Answer;
+use fault::refusals::{Refusal, Refused};
+use rules::{Room, Rules};
 use words::Sizes;
-
-// What the beginning of a call gives: the refusal of reading and its place; or 0, and the numbers that stepping goes by.
-#[derive(Clone, Copy)]
-pub struct Opened {
-    pub number: usize,
-    pub place: usize,
-    pub sizes: Sizes,
-}
 
 // Runs a bundle's schedule in the lent words, for every bundle, standing table and lent slice.
 pub fn run<'a>(bundle: &'a [u8], standing: &'a [u8], lent: &mut [u64]) -> Answer
     ensures value { result ≡ run_answer bundle.now standing.now (length lent.old) }
     ensures lent_after { lent.new ≡ run_words bundle.now standing.now lent.old }
 {
-    let mut ends = [0u8; rules::ROOM];
-    let mut leasts = [0u16; rules::ROOM];
-    run_with(bundle, standing, &mut ends, &mut leasts, lent)
+    let mut room = Room::none();
+    run_with(bundle, standing, &mut room, lent)
 }
 
 // The same, with room for the rules.
-fn run_with<'a>(
-    bundle: &'a [u8],
-    standing: &'a [u8],
-    ends: &mut [u8],
-    leasts: &mut [u16],
-    lent: &mut [u64],
-) -> Answer
-    requires { (length ends.old ≡ kept_room) × (length leasts.old ≡ kept_room) }
+fn run_with<'a>(bundle: &'a [u8], standing: &'a [u8], room: &mut Room, lent: &mut [u64]) -> Answer
     ensures value { result ≡ run_answer bundle.now standing.now (length lent.old) }
     ensures lent_after { lent.new ≡ run_words bundle.now standing.now lent.old }
 {
-    let o = open(bundle, standing, ends, leasts);
-    if o.number != 0 {
-        return fault::answered(o.number, o.place, 0);
+    if let Err(refused) = open(bundle, standing, room) {
+        return Answer::from(refused);
     }
-    let s = o.sizes;
-    let need = words::room(s);
+    let rules = room.rules();
+    let need = words::room(rules.sizes);
     if lent.len() < need {
-        return fault::answered(30, 0, 0);
+        return Answer::from(Refusal::LentShort.at(0));
     }
-    run_in(bundle, s, ends, leasts, &mut lent[..need])
+    ran(run_in(bundle, rules, &mut lent[..need]))
 }
 
 // ---- the beginning of every call
 // Reads a bundle beside a standing table, and makes its rules ready.
-pub fn open<'a>(bundle: &'a [u8], standing: &'a [u8], ends: &mut [u8], leasts: &mut [u16]) -> Opened
-    requires { (length ends.old ≡ kept_room) × (length leasts.old ≡ kept_room) }
-    ensures { Opens bundle.now standing.now result ends.new leasts.new }
+pub fn open<'a>(bundle: &'a [u8], standing: &'a [u8], room: &mut Room) -> Result<(), Refused>
+    ensures { Opens bundle.now standing.now (told result) room.new.sizes room.new.ends room.new.leasts }
 {
-    let v = bundle::read_fault(bundle, standing);
-    if v.number != 0 {
-        let none = Sizes {
-            level: 0,
-            correct: 0,
-            faulty: 0,
-            types: 0,
-            rules: 0,
-            wide: 0,
-            row: 0,
-            tolerated: 0,
-        };
-        return Opened {
-            number: v.number,
-            place: v.place,
-            sizes: none,
-        };
-    }
+    bundle::read_fault(bundle, standing)?;
     let table = bundle::table_in_use(bundle, standing);
-    let s = sizes_of(table, bundle);
-    rules::keep(table, bundle::t(bundle), s, ends, leasts);
-    Opened {
-        number: v.number,
-        place: v.place,
-        sizes: s,
-    }
+    room.keep(table, bundle::t(bundle), sizes_of(table, bundle));
+    Ok(())
 }
 
 // The numbers of a bundle and its table.
@@ -114,14 +77,14 @@ fn sizes_of(table: &[u8], bundle: &[u8]) -> Sizes
 
 // ---- the run
 // The schedule of a bundle, from its starts, in words of the right number: for every design that the kept rules stand for.
-pub fn run_in(bundle: &[u8], s: Sizes, ends: &[u8], leasts: &[u16], w: &mut [u64]) -> Answer
-    requires { (Parts s bundle.now) × (Bounded s) × (length ends.now ≡ kept_room) × (length leasts.now ≡ kept_room) × (length w.old ≡ room_of s) }
-    ensures by_design { ByDesign s ends.now leasts.now (λ d. result ≡ ran_answer (runs.run s.level d (start_in s bundle.now) (schedule_of bundle.now))) }
-    ensures by_design_2 { ByDesign s ends.now leasts.now (λ d. w.new ≡ (runs.run s.level d (start_in s bundle.now) (schedule_of bundle.now)).left) }
-    ensures holds { Holds s at_end w.new }
+pub fn run_in(bundle: &[u8], rules: Rules, w: &mut [u64]) -> Result<usize, Refused>
+    requires { (Parts rules.sizes bundle.now) × (length w.old ≡ room_of rules.sizes) }
+    ensures by_design { ByDesign rules.entry.sizes rules.entry.ends.now rules.entry.leasts.now (λ d. ran result ≡ ran_answer (runs.run rules.entry.sizes.level d (start_in rules.entry.sizes bundle.now) (schedule_of bundle.now))) }
+    ensures by_design_2 { ByDesign rules.entry.sizes rules.entry.ends.now rules.entry.leasts.now (λ d. w.new ≡ (runs.run rules.entry.sizes.level d (start_in rules.entry.sizes bundle.now) (schedule_of bundle.now)).left) }
+    ensures holds { Holds rules.entry.sizes at_end w.new }
 {
-    begin(bundle::starts(bundle), s, w);
-    run_steps(s, ends, leasts, bundle::steps(bundle), w)
+    begin(bundle::starts(bundle), rules.sizes, w);
+    run_steps(rules, bundle::steps(bundle), w)
 }
 
 // The first configuration.
@@ -138,12 +101,7 @@ pub fn begin(starts: &[u8], s: Sizes, w: &mut [u64])
 fn clear(w: &mut [u64])
     ensures { w.new ≡ replicate (length w.old) 0 }
 {
-    let room = w.len();
-    let mut i = 0;
-    while i < room {
-        w[i] = 0;
-        i += 1;
-    }
+    w.fill(0);
 }
 
 // Each board's start state in its place.
@@ -151,29 +109,33 @@ fn place(starts: &[u8], w: &mut [u64])
     requires { length starts.now ≤ length w.old }
     ensures { w.new ≡ starts.now ++ drop (length starts.now) w.old }
 {
-    let boards = starts.len();
-    let mut i = 0;
-    while i < boards {
-        w[i] = fault::byte_at(starts, i) as u64;
-        i += 1;
+    for (i, start) in starts.iter().enumerate() {
+        w[i] = u64::from(*start);
     }
 }
 
 // The steps one after the other, up to the first that is refused.
-fn run_steps(s: Sizes, ends: &[u8], leasts: &[u16], steps: &[u8], w: &mut [u64]) -> Answer
-    requires { (Bounded s) × (length ends.now ≡ kept_room) × (length leasts.now ≡ kept_room) × (Holds s 256 w.old) × (Records steps.now) }
-    ensures by_design { ByDesign s ends.now leasts.now (λ d. result ≡ ran_answer (runs.run s.level d w.old (steps_in steps.now))) }
-    ensures by_design_2 { ByDesign s ends.now leasts.now (λ d. w.new ≡ (runs.run s.level d w.old (steps_in steps.now)).left) }
-    ensures holds { Holds s at_end w.new }
+fn run_steps(rules: Rules, steps: &[u8], w: &mut [u64]) -> Result<usize, Refused>
+    requires { (Holds rules.sizes 256 w.old) × (Records steps.now) }
+    ensures by_design { ByDesign rules.entry.sizes rules.entry.ends.now rules.entry.leasts.now (λ d. ran result ≡ ran_answer (runs.run rules.entry.sizes.level d w.old (steps_in steps.now))) }
+    ensures by_design_2 { ByDesign rules.entry.sizes rules.entry.ends.now rules.entry.leasts.now (λ d. w.new ≡ (runs.run rules.entry.sizes.level d w.old (steps_in steps.now)).left) }
+    ensures holds { Holds rules.entry.sizes at_end w.new }
 {
     let total = steps.len() / 4;
-    let mut i = 0;
-    while i < total {
-        let x = step::step(s, ends, leasts, w, schedule::step_at(steps, i));
-        if x != 0 {
-            return fault::answered(x, i, i);
+    for i in 0..total {
+        if let Err(refusal) = step::step(rules, w, schedule::step_at(steps, i)) {
+            return Err(refusal.at(i));
         }
-        i += 1;
     }
-    fault::answered(0, 0, total)
+    Ok(total)
+}
+
+// The answer of a run: a refused step's place is the number of steps before it, and these are counted.
+pub fn ran(steps: Result<usize, Refused>) -> Answer
+    ensures { result ≡ ran steps }
+{
+    match steps {
+        Ok(count) => fault::answered(0, 0, count),
+        Err(refused) => fault::answered(refused.refusal.number(), refused.place, refused.place),
+    }
 }

@@ -1,3 +1,3 @@
 pub mod FaultLaws
 pub mod TestLaws
-pub mod FillLaws
+pub mod RefusalLaws

@@ -1,7 +1,11 @@
 -- Refusals: a number with its place, one check after the other, and the lowest place of a fault (outline, "Numbers given back").
 use Rattle.std.specs.Prelude.{Bool, cond, ℕ, zero, suc, eqb}
-use Rattle.fault.specs.declared.Verdict.{Verdict}
 use Rattle.fault.specs.declared.Answer.{Answer}
+
+-- a refusal and its place
+pub record Verdict : Type 0 where
+  pub number : ℕ
+  pub place : ℕ
 
 abbrev pub verdict : ℕ → ℕ → Verdict
 verdict k p = record { number = k; place = p }

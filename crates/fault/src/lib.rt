@@ -4,19 +4,14 @@
 ghost use Rattle.std.specs.Prelude.{◌≡◌, ◌+◌, ◌-◌, ◌*◌, ◌/◌, ◌%◌, ◌≤◌, ◌<◌, length};
 ghost use Rattle.fault.specs.Bytes.{byte_at, u16_at, trailer_bytes, trailer_of};
 ghost use Rattle.fault.specs.Tests as tests;
-ghost use Rattle.fault.specs.Fault.{verdict};
+
+pub mod refusals; // what is refused, by name
 
 // A trailer is the last bytes of its part.
 pub const TRAILER_BYTES: usize = 8;
 
-// A refusal and its place; 0 and 0 where nothing is refused.
-#[derive(Clone, Copy)]
-pub struct Verdict {
-    pub number: usize,
-    pub place: usize,
-}
-
 // What a call answers: refusal, place and a count.
+// Stays: the calls for C pack these three numbers, and the theorems in claims speak of them; within, a Result is handed on.
 #[derive(Clone, Copy)]
 pub struct Answer {
     pub refusal: u64,
@@ -33,13 +28,6 @@ pub fn answered(refusal: usize, place: usize, count: usize) -> Answer
         place: place as u64,
         count: count as u64,
     }
-}
-
-// The refusal of a number at a place.
-pub fn refusal(number: usize, place: usize) -> Verdict
-    ensures { result ≡ verdict number place }
-{
-    Verdict { number, place }
 }
 
 // Is x not in lo .. hi?
@@ -92,19 +80,6 @@ pub fn high(x: usize) -> u8
     ensures { result ≡ x / 256 }
 {
     (x / 256) as u8
-}
-
-// All bytes of `from`, in their places.
-pub fn copy(from: &[u8], to: &mut [u8])
-    requires { length to.old ≡ length from.now }
-    ensures { to.new ≡ from.now }
-{
-    let n = from.len();
-    let mut i = 0;
-    while i < n {
-        to[i] = from[i];
-        i += 1;
-    }
 }
 
 // Byte k of the trailer.

@@ -1,6 +1,6 @@
 -- Bytes put one after the other into lent memory, so far as they fit; and bytes that are given as a whole or not at all.
 use Rattle.std.specs.Prelude.{ℕ, ◌+◌, ◌≤◌, ◌<◌, ◌≡◌, List, [], ◌∷◌, ◌++◌, length, set, drop}
-use Rattle.fault.specs.declared.Verdict.{Verdict}
+use Rattle.fault.specs.Fault.{Verdict}
 use Rattle.fault.specs.declared.Answer.{Answer}
 use Rattle.fault.specs.Tests.{◌below◌, ◌differs◌}
 use Rattle.fault.specs.Fault.{refused, nothing_done, ◌if◌else◌}

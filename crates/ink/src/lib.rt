@@ -9,11 +9,9 @@ pub fn put_all(out: &mut [u8], n: usize, word: &[u8]) -> usize
     requires { n + length word.now ≤ places }
     ensures { Put out.old n word.now result out.new }
 {
-    let mut i = 0;
     let mut m = n;
-    while i < word.len() {
-        m = put(out, m, word[i]);
-        i += 1;
+    for b in word {
+        m = put(out, m, *b);
     }
     m
 }

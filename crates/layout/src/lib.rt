@@ -119,15 +119,7 @@ pub fn divisor_outside(rule: &[u8], byte: usize) -> bool
     requires { (byte < 256) × (length rule.now ≡ rule_bytes byte) }
     ensures { result ≡ some (types_in byte) (divisor_outside byte rule.now) }
 {
-    let types = types_in(byte);
-    let mut m = 0;
-    while m < types {
-        if outside_at(rule, byte, m) {
-            return true;
-        }
-        m += 1;
-    }
-    false
+    (0..types_in(byte)).any(|m| outside_at(rule, byte, m))
 }
 
 // Is that of type m none?

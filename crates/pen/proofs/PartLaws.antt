@@ -22,11 +22,11 @@ use Rattle.pen.proofs.TextLaws.{label_is, numbers_more, numbers-over, state-is, 
 pub label-put : {out o₁ o₂ end : List ℕ} {n m₁ m₂ r : ℕ} (shape : Shape) (s : List ℕ) (g at : ℕ) → Put out n (text " [label=\"") m₁ o₁ → Put o₁ m₁ (alone (numbers_text shape g 0 s at)) m₂ o₂ → Put o₂ m₂ (text "\"];") r end → Put out n (alone (labelled shape g s at)) r end
 label-put shape s g at a b d = put_as (label_is shape s g at) (put_then a (put_then b d))
 
-pub numbers-turn : {out₀ whole out mid : List ℕ} {n₀ n m b left i : ℕ} (shape : Shape) (s : List ℕ) (j at : ℕ) → RestPut out₀ n₀ whole out n (alone (numbers_text shape left j s (at + j))) → 0 < left → i ≡ j % shape.group → b ≡ byte_at s (at + j) → Put out n (joint_at j i ++ spelling (i below shape.signed) b) m mid → RestPut out₀ n₀ whole mid m (alone (numbers_text shape (left - 1) (j + 1) s (at + (j + 1))))
-numbers-turn {left = left} shape s j at l h e f p = rest_less l (numbers_more shape s left j at h) (rw (e, f) at p)
+pub numbers-turn : {out₀ whole out mid : List ℕ} {n₀ n m b g i : ℕ} (shape : Shape) (s : List ℕ) (j at : ℕ) → RestPut out₀ n₀ whole out n (alone (numbers_text shape (g - j) j s (at + j))) → j < g → i ≡ j % shape.group → b ≡ byte_at s (at + j) → Put out n (joint_at j i ++ spelling (i below shape.signed) b) m mid → RestPut out₀ n₀ whole mid m (alone (numbers_text shape (g - (j + 1)) (j + 1) s (at + (j + 1))))
+numbers-turn {g = g} shape s j at l h e f p = rest_less l (numbers_more shape s g j at h) (rw (e, f) at p)
 
-pub put-numbers-end : {out₀ whole out : List ℕ} {n₀ n left : ℕ} (shape : Shape) (s : List ℕ) (j at : ℕ) → RestPut out₀ n₀ whole out n (alone (numbers_text shape left j s at)) → left ≤ 0 → Put out₀ n₀ whole n out
-put-numbers-end {left = left} shape s j at l h = rest-none l (numbers-over shape s left j at h)
+pub put-numbers-end : {out₀ whole out : List ℕ} {n₀ n g : ℕ} (shape : Shape) (s : List ℕ) (j at : ℕ) → RestPut out₀ n₀ whole out n (alone (numbers_text shape (g - j) j s (at + j))) → g ≤ j → Put out₀ n₀ whole n out
+put-numbers-end {g = g} shape s j at l h = rest-none l (numbers-over shape s g j (at + j) h)
 
 -- ---- the states
 pub state-put : {out mid end : List ℕ} {n m r : ℕ} {shape : Shape} (s : List ℕ) (i : ℕ) → Put out n (text "\ns" ++ decimal i) m mid → shape ≡ state_shape → Put mid m (alone (labelled shape state_bytes s (state_bytes * i))) r end → Put out n (alone (state_text s i)) r end

@@ -85,19 +85,21 @@ module _ (shape : Shape) (s : List ℕ) where
   label_is g at = writes_alone (label_writes g at)
 
   -- the rest of the numbers, from j on
-  pub numbers-first : (g at : ℕ) → alone (numbers_text shape g 0 s at) ≡ alone (numbers_text shape g 0 s (at + 0))
-  numbers-first g at = let e : at + 0 ≡ at = omega arith in rw e
+  pub numbers-first : (g at : ℕ) → alone (numbers_text shape g 0 s at) ≡ alone (numbers_text shape (g - 0) 0 s (at + 0))
+  numbers-first g at =
+      let e : g - 0 ≡ g = omega arith in
+      let f : at + 0 ≡ at = omega arith in
+      rw (e, f)
 
-  pub numbers_more : (left j at : ℕ) → 0 < left → alone (numbers_text shape left j s (at + j)) ≡ (joint shape j ++ spelling (negative shape j) (byte_at s (at + j))) ++ alone (numbers_text shape (left - 1) (j + 1) s (at + (j + 1)))
-  numbers_more zero j at h = absurd (omega arith)
-  numbers_more (suc left) j at h =
-      let e : suc left - 1 ≡ left = omega arith in
+  pub numbers_more : (g j at : ℕ) → j < g → alone (numbers_text shape (g - j) j s (at + j)) ≡ (joint shape j ++ spelling (negative shape j) (byte_at s (at + j))) ++ alone (numbers_text shape (g - (j + 1)) (j + 1) s (at + (j + 1)))
+  numbers_more g j at h =
+      let e : g - j ≡ suc (g - (j + 1)) = omega arith in
       let f : at + (j + 1) ≡ at + j + 1 = omega arith in
-      rw (e, f) (numbers-is left j (at + j))
+      rw (e, f) (numbers-is (g - (j + 1)) j (at + j))
 
-  pub numbers-over : (left j at : ℕ) → left ≤ 0 → alone (numbers_text shape left j s at) ≡ []
+  pub numbers-over : (g j at : ℕ) → g ≤ j → alone (numbers_text shape (g - j) j s at) ≡ []
   unfolding numbers_text written
-  numbers-over left j at h = let e : left ≡ 0 = omega arith in rw e
+  numbers-over g j at h = let e : g - j ≡ 0 = omega arith in rw e
 
 -- ---- a state
 state_writes : (s : List ℕ) (i : ℕ) → Writes (state_text s i) (text "\ns" ++ decimal i ++ alone (labelled state_shape state_bytes s (state_bytes * i)))

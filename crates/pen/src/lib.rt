@@ -1,7 +1,7 @@
 // A table's drawing, written into lent bytes so far as they reach; what does not fit is counted too.
 #![tactic(auto)]
 
-ghost use Rattle.std.specs.Prelude.{◌≡◌, [], ◌∷◌, ◌++◌, ◌+◌, ◌*◌, ◌≤◌, ◌<◌, length};
+ghost use Rattle.std.specs.Prelude.{◌≡◌, ◌++◌, ◌+◌, ◌*◌, ◌≤◌, ◌<◌, length};
 ghost use Rattle.table.specs.Table.{states_of, rules_of, types_byte, factor_of, rule_at, state_bytes};
 ghost use Rattle.table.specs.Facts.{Sized};
 ghost use Rattle.decimal.specs.Numbers.{decimal, spelling};
@@ -38,12 +38,9 @@ fn put_states(out: &mut [u8], n: usize, table: &[u8]) -> usize
     requires { (n + most_states_text ≤ places) × Sized table.now }
     ensures { Put out.old n (alone (states_text (states_of table.now) table.now 0)) result out.new × (result ≤ n + most_states_text) }
 {
-    let states = table::states(table);
-    let mut i = 0;
     let mut m = n;
-    while i < states {
+    for i in 0..table::states(table) {
         m = put_state(out, m, table, i);
-        i += 1;
     }
     m
 }
@@ -69,12 +66,9 @@ fn put_rules(out: &mut [u8], n: usize, table: &[u8]) -> usize
     requires { (n + most_rules_text ≤ places) × Sized table.now }
     ensures { Put out.old n (alone (rules_text (rules_of table.now) (types_byte table.now) table.now (state_bytes * states_of table.now))) result out.new × (result ≤ n + most_rules_text) }
 {
-    let rules = table::rules(table);
-    let mut k = 0;
     let mut m = n;
-    while k < rules {
+    for k in 0..table::rules(table) {
         m = put_rule(out, m, table, k);
-        k += 1;
     }
     m
 }
@@ -121,16 +115,12 @@ fn put_numbers(out: &mut [u8], n: usize, table: &[u8], at: usize, g: usize, shap
     requires { (n + 6 * g ≤ places) × (at + g ≤ length table.now) × (1 ≤ shape.group) }
     ensures { Put out.old n (alone (numbers_text shape g 0 table.now at)) result out.new × (result ≤ n + 6 * g) }
 {
-    let mut left = g;
-    let mut j = 0;
     // The place of number j in its group.
     let mut i = 0;
     let mut m = n;
-    while 0 < left {
-        left -= 1;
+    for j in 0..g {
         let b = fault::byte_at(table, at + j);
         m = put_number(out, m, j, i, b, i < shape.signed);
-        j += 1;
         i = dot::next(i, shape.group);
     }
     m

@@ -7,7 +7,7 @@ use native.Mathlib.Omega.{arith}
 use lib.Dec.{ltb}
 use lib.ListN.{length, drop}
 use borrow.Author.Tests.{eq-eqb, ne_eqb, ltb-false}
-use Rattle.fault.specs.declared.Verdict.{Verdict}
+use Rattle.fault.specs.Fault.{Verdict}
 use Rattle.fault.specs.declared.Answer.{Answer}
 use Rattle.fault.specs.Bytes.{step_bytes, most_steps}
 use Rattle.fault.specs.Tests.{◌differs◌}
@@ -146,16 +146,19 @@ module _ (b standing log out words : List ℕ) where
     steps_refuse e h f = refuses b standing log out words (refused 52) (fault-steps b standing log (length out) (length words) r (sym e ∙ h)) (λ z. omega (arith, z)) f
 
     module _ {x : Bool} (e : x ≡ not_empty b) (h : x ≡ false) where
-      pub log_refuses : {k p : ℕ} {a : Answer} → k ≡ (log_fault log).number → p ≡ (log_fault log).place → (k ≡ 0 → ⊥) → a ≡ record { refusal = k; place = p; count = 0 } → Replayed b standing log out words a out words
-      log_refuses {k} {p} ek ep n f =
-          refuses b standing log out words (log_fault log) (fault-lines b standing log (length out) (length words) r (sym e ∙ h) (λ z. n (ek ∙ z))) (λ z. n (ek ∙ z))
-          (f ∙ (λ i. record { refusal = ek i; place = ep i; count = 0 }))
+      pub log_refuses : {v : Verdict} {a : Answer} → v ≡ log_fault log → (v.number ≡ 0 → ⊥) → a ≡ nothing_done v → Replayed b standing log out words a out words
+      log_refuses {v} ev n f =
+          let s = ap (λ (x : Verdict). x.number) ev in
+          refuses b standing log out words (log_fault log) (fault-lines b standing log (length out) (length words) r (sym e ∙ h) (λ z. n (s ∙ z))) (λ z. n (s ∙ z)) (f ∙ ap nothing_done ev)
 
-      module _ {k : ℕ} (ek : k ≡ (log_fault log).number) (z : k ≡ 0) where
+      module _ (z : fine ≡ log_fault log) where
+        no_wrong : (log_fault log).number ≡ 0
+        no_wrong = sym (ap (λ (x : Verdict). x.number) z)
+
         pub room-refuses : {y : Bool} {a : Answer} → y ≡ no_room b standing log (length out) (length words) → y ≡ true → a ≡ nothing_done (refused 30) → Replayed b standing log out words a out words
-        room-refuses g q f = refuses b standing log out words (refused 30) (fault-room b standing log (length out) (length words) r (sym e ∙ h) (sym ek ∙ z) (sym g ∙ q)) (λ z. omega (arith, z)) f
+        room-refuses g q f = refuses b standing log out words (refused 30) (fault-room b standing log (length out) (length words) r (sym e ∙ h) no_wrong (sym g ∙ q)) (λ z. omega (arith, z)) f
 
         pub replayed : {y : Bool} {a : Answer} {u w : List ℕ} → y ≡ no_room b standing log (length out) (length words) → y ≡ false
             → a ≡ run_answer (made_of b log) standing (length words) → u ≡ made_of b log ++ drop (length (made_of b log)) out → w ≡ run_words (made_of b log) standing words
             → Replayed b standing log out words a u w
-        replayed g q f o p = runs b standing log out words fine (fault-none b standing log (length out) (length words) r (sym e ∙ h) (sym ek ∙ z) (sym g ∙ q)) refl f o p
+        replayed g q f o p = runs b standing log out words fine (fault-none b standing log (length out) (length words) r (sym e ∙ h) no_wrong (sym g ∙ q)) refl f o p

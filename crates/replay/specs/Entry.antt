@@ -3,7 +3,7 @@ use Rattle.std.specs.Prelude.{Bool, ◌||◌, List, ◌++◌, ℕ, ◌+◌, ◌*
 use Rattle.fault.specs.Bytes.{step_bytes}
 use Rattle.fault.specs.Tests.{◌below◌, ◌differs◌}
 use Rattle.fault.specs.Fault.{fine, refused, nothing_done, ◌if◌else◌, ◌▹◌}
-use Rattle.fault.specs.declared.Verdict.{Verdict}
+use Rattle.fault.specs.Fault.{Verdict}
 use Rattle.fault.specs.declared.Answer.{Answer}
 use Rattle.bundle.specs.Bundle.{step_distance, form_of}
 use Rattle.bundle.specs.Refusals.{read_fault}

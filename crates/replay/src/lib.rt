@@ -8,14 +8,15 @@ ghost use Rattle.schedule.specs.Records.{bytes_of};
 ghost use Rattle.service_log.specs.Lines.{log_steps};
 ghost use Rattle.paper.specs.Run as runs;
 ghost use Rattle.words.specs.Words.{room_of};
-ghost use Rattle.words.specs.Facts.{Bounded};
-ghost use Rattle.rules.specs.Kept.{kept_room, ByDesign};
+ghost use Rattle.rules.specs.Kept.{ByDesign};
 ghost use Rattle.engine.specs.Entry.{schedule_of, start_in, ran_answer};
 ghost use Rattle.replay.specs.Facts.{Blank};
 ghost use Rattle.replay.specs.Made.{raised};
 ghost use Rattle.replay.specs.Entry.{not_empty, made_of, replay_answer, replay_bytes, replay_words};
 
 use fault::Answer;
+use fault::refusals::Refusal;
+use rules::{Room, Rules};
 use words::Sizes;
 
 // Makes a bundle of one without steps and a log, writes it to `out` and runs it in `words`: for every input and all that is lent.
@@ -30,9 +31,8 @@ pub fn replay<'a>(
     ensures out_after { out.new ≡ replay_bytes bundle.now standing.now log.now out.old (length words.old) }
     ensures words_after { words.new ≡ replay_words bundle.now standing.now log.now (length out.old) words.old }
 {
-    let mut ends = [0u8; rules::ROOM];
-    let mut leasts = [0u16; rules::ROOM];
-    replay_with(bundle, standing, log, &mut ends, &mut leasts, out, words)
+    let mut room = Room::none();
+    replay_with(bundle, standing, log, &mut room, out, words)
 }
 
 // The same, with room for the rules.
@@ -40,61 +40,42 @@ fn replay_with<'a>(
     bundle: &'a [u8],
     standing: &'a [u8],
     log: &[u8],
-    ends: &mut [u8],
-    leasts: &mut [u16],
+    room: &mut Room,
     out: &mut [u8],
     words: &mut [u64],
 ) -> Answer
-    requires { (length ends.old ≡ kept_room) × (length leasts.old ≡ kept_room) }
     ensures value { result ≡ replay_answer bundle.now standing.now log.now (length out.old) (length words.old) }
     ensures out_after { out.new ≡ replay_bytes bundle.now standing.now log.now out.old (length words.old) }
     ensures words_after { words.new ≡ replay_words bundle.now standing.now log.now (length out.old) words.old }
 {
-    let o = engine::open(bundle, standing, ends, leasts);
-    if o.number != 0 {
-        return fault::answered(o.number, o.place, 0);
+    if let Err(refused) = engine::open(bundle, standing, room) {
+        return Answer::from(refused);
     }
+    let rules = room.rules();
     if not_empty(bundle) {
-        return fault::answered(52, 0, 0);
+        return Answer::from(Refusal::NotEmpty.at(0));
     }
-    let v = service_log::check_lines(log);
-    if v.number != 0 {
-        return fault::answered(v.number, v.place, 0);
-    }
-    let s = o.sizes;
-    let need = bundle.len() + v.count * bundle::STEP_BYTES;
-    let room = words::room(s);
+    let lines = match service_log::check_lines(log) {
+        Ok(lines) => lines,
+        Err(wrong) => return Answer::from(wrong),
+    };
+    let need = bundle.len() + lines * bundle::STEP_BYTES;
+    let room = words::room(rules.sizes);
     if (out.len() < need) | (words.len() < room) {
-        return fault::answered(30, 0, 0);
+        return Answer::from(Refusal::LentShort.at(0));
     }
-    replay_in(
-        bundle,
-        s,
-        ends,
-        leasts,
-        log,
-        &mut out[..need],
-        &mut words[..room],
-    )
+    replay_in(bundle, rules, log, &mut out[..need], &mut words[..room])
 }
 
 // The same for a bundle that is ready and a log that is right, into as many bytes and words as they need.
-fn replay_in(
-    bundle: &[u8],
-    s: Sizes,
-    ends: &[u8],
-    leasts: &[u16],
-    log: &[u8],
-    out: &mut [u8],
-    w: &mut [u64],
-) -> Answer
-    requires { (Blank s bundle.now) × (Bounded s) × (length ends.now ≡ kept_room) × (length leasts.now ≡ kept_room) × (length out.old ≡ length bundle.now + length (log_steps log.now) * step_bytes) × (length w.old ≡ room_of s) }
-    ensures by_design { ByDesign s ends.now leasts.now (λ d. result ≡ ran_answer (runs.run s.level d (start_in s (made_of bundle.now log.now)) (schedule_of (made_of bundle.now log.now)))) }
-    ensures by_design_2 { ByDesign s ends.now leasts.now (λ d. w.new ≡ (runs.run s.level d (start_in s (made_of bundle.now log.now)) (schedule_of (made_of bundle.now log.now))).left) }
+fn replay_in(bundle: &[u8], rules: Rules, log: &[u8], out: &mut [u8], w: &mut [u64]) -> Answer
+    requires { (Blank rules.sizes bundle.now) × (length out.old ≡ length bundle.now + length (log_steps log.now) * step_bytes) × (length w.old ≡ room_of rules.sizes) }
+    ensures by_design { ByDesign rules.entry.sizes rules.entry.ends.now rules.entry.leasts.now (λ d. result ≡ ran_answer (runs.run rules.entry.sizes.level d (start_in rules.entry.sizes (made_of bundle.now log.now)) (schedule_of (made_of bundle.now log.now)))) }
+    ensures by_design_2 { ByDesign rules.entry.sizes rules.entry.ends.now rules.entry.leasts.now (λ d. w.new ≡ (runs.run rules.entry.sizes.level d (start_in rules.entry.sizes (made_of bundle.now log.now)) (schedule_of (made_of bundle.now log.now))).left) }
     ensures out_after { out.new ≡ made_of bundle.now log.now }
 {
     write(bundle, log, out);
-    engine::run_in(out, s, ends, leasts, w)
+    engine::ran(engine::run_in(out, rules, w))
 }
 
 // 52
@@ -111,7 +92,7 @@ fn write(bundle: &[u8], log: &[u8], out: &mut [u8])
     ensures { out.new ≡ made_of bundle.now log.now }
 {
     let at = bundle.len() - fault::TRAILER_BYTES;
-    fault::copy(&bundle[..at], &mut out[..at]);
+    out[..at].copy_from_slice(&bundle[..at]);
     append(bundle, log, &mut out[at..]);
 }
 
@@ -121,7 +102,8 @@ fn append(bundle: &[u8], log: &[u8], out: &mut [u8])
     ensures { out.new ≡ bytes_of (log_steps log.now) ++ raised bundle.now (length (log_steps log.now) * step_bytes) }
 {
     let more = out.len() - fault::TRAILER_BYTES;
-    service_log::take_lines(log, &mut out[..more]);
+    // Whether the log is right was asked before.
+    let _ = service_log::take_lines(log, &mut out[..more]);
     close(bundle, more, &mut out[more..]);
 }
 
@@ -133,7 +115,7 @@ fn close(bundle: &[u8], more: usize, out: &mut [u8])
     let steps = bundle::step_distance(bundle) + more;
     let starts = bundle::start_distance(bundle) + more;
     let at = bundle.len() - fault::TRAILER_BYTES;
-    fault::copy(&bundle[at..], out);
+    out.copy_from_slice(&bundle[at..]);
     out[0] = fault::low(steps);
     out[1] = fault::high(steps);
     out[2] = fault::low(starts);

@@ -4,9 +4,9 @@
 
 ghost use Rattle.std.specs.Prelude.{◌≡◌, ◌≤◌, ◌<◌, length, IfOk};
 ghost use Rattle.words.specs.Words.{room_of};
-ghost use Rattle.rules.specs.Kept.{kept_room};
 ghost use Rattle.words.specs.Facts.{most_words, Bounded, At};
 
+use rules::Room;
 use std::io;
 use std::io::Read;
 use words::Sizes;
@@ -15,12 +15,13 @@ use words::Sizes;
 const LARGEST: usize = 17648;
 
 fn main(rt: HostRuntime) -> io::Result<()> {
-    let mut input = [0u8; 17649];
+    let mut input = [0u8; LARGEST + 1];
     let n = read_input(&rt, &mut input)?;
     report(&rt, &input[..n])
 }
 
 // Reads until the input ends or the bytes are full: how many came.
+// Stays: a read may bring fewer bytes than there is room for, and the library reads to the end only into a Vec; no heap here.
 fn read_input(rt: &impl Input, input: &mut [u8]) -> io::Result<usize>
     ensures within { IfOk result (λ n. n ≤ length input.new) }
 {
@@ -41,10 +42,8 @@ fn report(rt: &impl Print, bundle: &[u8]) -> io::Result<()> {
         return print_result(rt, 40, 0, 0);
     }
     let standing = echo::table();
-    let mut ends = [0u8; rules::ROOM];
-    let mut leasts = [0u16; rules::ROOM];
     let mut words = [0u64; words::MOST];
-    report_run(rt, bundle, &standing, &mut ends, &mut leasts, &mut words)
+    report_run(rt, bundle, &standing, &mut words)
 }
 
 // The first line; then, where steps were looked at, the configuration. There is room for any, so that what was read was run.
@@ -52,21 +51,18 @@ fn report_run<'a>(
     rt: &impl Print,
     bundle: &'a [u8],
     standing: &'a [u8],
-    ends: &mut [u8],
-    leasts: &mut [u16],
     words: &mut [u64],
 ) -> io::Result<()>
-    requires { (length ends.old ≡ kept_room) × (length leasts.old ≡ kept_room) × (most_words ≤ length words.old) }
+    requires { most_words ≤ length words.old }
 {
     let a = engine::run(bundle, standing, words);
     print_result(rt, a.refusal, a.place, a.count)?;
-    let o = engine::open(bundle, standing, ends, leasts);
-    if o.number != 0 {
+    let mut room = Room::none();
+    if engine::open(bundle, standing, &mut room).is_err() {
         return Ok(());
     }
-    let s = o.sizes;
-    let need = words::room(s);
-    print_configuration(rt, s, &words[..need])
+    let need = words::room(room.sizes);
+    print_configuration(rt, room.sizes, &words[..need])
 }
 
 fn print_result(rt: &impl Print, refusal: u64, place: u64, count: u64) -> io::Result<()> {
@@ -77,35 +73,35 @@ fn print_result(rt: &impl Print, refusal: u64, place: u64, count: u64) -> io::Re
 fn print_configuration(rt: &impl Print, s: Sizes, w: &[u64]) -> io::Result<()>
     requires { (Bounded s) × (length w.now ≡ room_of s) }
 {
-    let boards = s.correct;
-    for p in 0..boards {
+    for p in 0..s.correct {
         print_board(rt, s, w, p)?;
     }
     print_sent(rt, s, w)?;
-    print_stopped(rt, s, w)
+    let stopped = words::stopped_in(s, w);
+    println!(rt; "stopped {stopped}")
 }
 
 // Board, state, then the counts of each type.
 fn print_board(rt: &impl Print, s: Sizes, w: &[u64], p: usize) -> io::Result<()>
     requires { (Bounded s) × (p < s.correct) × (length w.now ≡ room_of s) }
 {
-    print!(rt; "p")?;
-    print_next(rt, p as u64)?;
-    print_next(rt, words::state_in(s, w, p))?;
-    let types = s.types;
-    for m in 0..types {
+    let state = words::state_in(s, w, p);
+    print!(rt; "p {p} {state}")?;
+    for m in 0..s.types {
         print_cell(rt, s, w, p, m)?;
     }
-    end_line(rt)
+    println!(rt;)
 }
 
 // Correct and faulty count, or the one of a plain counter.
 fn print_cell(rt: &impl Print, s: Sizes, w: &[u64], p: usize, m: usize) -> io::Result<()>
     requires { (Bounded s) × (At s p m) × (length w.now ≡ room_of s) }
 {
-    print_next(rt, words::correct_in(s, w, p, m))?;
+    let correct = words::correct_in(s, w, p, m);
+    print!(rt; " {correct}")?;
     if s.level < 2 {
-        print_next(rt, words::faulty_in(s, w, p, m))?;
+        let faulty = words::faulty_in(s, w, p, m);
+        print!(rt; " {faulty}")?;
     }
     Ok(())
 }
@@ -115,26 +111,9 @@ fn print_sent(rt: &impl Print, s: Sizes, w: &[u64]) -> io::Result<()>
     requires { (Bounded s) × (length w.now ≡ room_of s) }
 {
     print!(rt; "sent")?;
-    let types = s.types;
-    for m in 0..types {
-        print_next(rt, words::sent_in(s, w, m))?;
+    for m in 0..s.types {
+        let sent = words::sent_in(s, w, m);
+        print!(rt; " {sent}")?;
     }
-    end_line(rt)
-}
-
-// The set of stopped boards, as its word.
-fn print_stopped(rt: &impl Print, s: Sizes, w: &[u64]) -> io::Result<()>
-    requires { (Bounded s) × (length w.now ≡ room_of s) }
-{
-    print!(rt; "stopped")?;
-    print_next(rt, words::stopped_in(s, w))?;
-    end_line(rt)
-}
-
-fn print_next(rt: &impl Print, number: u64) -> io::Result<()> {
-    print!(rt; " {number}")
-}
-
-fn end_line(rt: &impl Print) -> io::Result<()> {
     println!(rt;)
 }

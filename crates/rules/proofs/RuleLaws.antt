@@ -2,10 +2,10 @@
 use mathlib.Core.Path.{◌≡◌, refl, sym, ap, ap₂, ◌∙◌, subst⁻¹}
 use mathlib.Core.Bool.{not, ◌&&◌}
 use mathlib.Core.List.{List}
-use Prim.Native.Nat.{ℕ, ◌+◌, ◌*◌, ◌≤◌, ◌<◌}
+use Prim.Native.Nat.{ℕ, zero, suc, ◌+◌, ◌*◌, ◌≤◌, ◌<◌}
 use native.Mathlib.Decide.{ℕ_discrete}
 use native.Mathlib.Omega.{arith}
-use lib.ListN.{length, get_or, set, length-set}
+use lib.ListN.{replicate, length, get_or, set, length-set}
 use lib.Seq.{get_or-set_same, get_or-set_other}
 use Rattle.threshold.proofs.LeastLaws.{from-least}
 use Rattle.threshold.specs.Threshold.{threshold_of, least_of}
@@ -168,3 +168,9 @@ kept_by s t table e l S E L h = record {
   };
   leasts = record { long = L.long; met = λ r m c h k. met_at_lem s t table r m c h k ∙ met-is table r m (s.correct + s.faulty) t c (L.at r m h k) };
 }
+
+-- room with nothing in it has bytes alone
+pub zeros_small : (n i : ℕ) → get_or (replicate n 0) i 0 < 256
+zeros_small zero i = omega arith
+zeros_small (suc n) zero = omega arith
+zeros_small (suc n) (suc i) = zeros_small n i

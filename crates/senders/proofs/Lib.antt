@@ -1,3 +1,4 @@
 pub mod TallyLaws
 pub mod SetLaws
 pub mod WordLaws
+pub mod RangeLaws

@@ -1,7 +1,7 @@
 -- The machine's operations on a word, as sets: `&`, `!`, the count of ones under a mask, and trailing zeros.
 use mathlib.Core.Path.{◌≡◌, refl, sym, ap, ap₂, ◌∙◌}
 use mathlib.Core.Bool.{Bool, true, false, not, ◌&&◌, ◌||◌, and_assoc, or-false}
-use Prim.Native.Nat.{ℕ, zero, suc, ◌+◌, ◌-◌, ◌*◌, ◌/◌, ◌%◌, ◌^◌, ◌≤◌, ◌<◌}
+use Prim.Native.Nat.{ℕ, zero, suc, min, ◌+◌, ◌-◌, ◌*◌, ◌/◌, ◌%◌, ◌^◌, ◌≤◌, ◌<◌}
 use native.Mathlib.Nat.{mod-lt, mod-one, mod-eq_of_lt, one-mul, add_comm, add-zero, le_of_suc-le-suc, lt_of_le_of_lt, not-suc-le-zero, pow-suc, sub-zero}
 use native.Mathlib.Numerals.{add-one}
 use native.Mathlib.Omega.{arith}
@@ -150,11 +150,18 @@ module _ (s o c : ℕ) (l : c ≤ 64) (h : o < 2 ^ 64) where
   cut : Cut c 64 (missing s o) (mem (bit_and s ((2 ^ 64 - 1) - o)))
   cut = least-cut c 64 _ _ l (λ i j. mem-missing s o i h (omega arith))
 
-  pub lowest-below : zeros < c → zeros ≡ least c (missing s o)
+  lowest-below : zeros < c → zeros ≡ least c (missing s o)
   lowest-below b = trailing_least 64 _ ∙ cut.below (rw (← trailing_least 64 (bit_and s ((2 ^ 64 - 1) - o))) b)
 
-  pub lowest-none : c ≤ zeros → c ≡ least c (missing s o)
+  lowest-none : c ≤ zeros → c ≡ least c (missing s o)
   lowest-none b = cut.none (rw (← trailing_least 64 (bit_and s ((2 ^ 64 - 1) - o))) b)
+
+  pub lowest_within : {z m : ℕ} → z ≡ zeros → m ≡ min z c → m ≡ least c (missing s o)
+  lowest_within {z} {m} e f = go (dec_lt zeros c)
+    where
+      go : Dec (zeros < c) → m ≡ least c (missing s o)
+      go (yes l) = let n : m ≡ zeros = omega (arith, e, f) in n ∙ lowest-below l
+      go (no l) = let n : m ≡ c = omega (arith, e, f) in n ∙ lowest-none (omega arith)
 
 -- the lowest of the correct senders, of the faulty ones, and of those in transit, as the code asks for them with the mask m in hand
 module _ {m r : ℕ} (c n : ℕ) (e : m ≡ 2 ^ c - 1) where

@@ -2,7 +2,7 @@
 use mathlib.Core.Path.{◌≡◌, refl, sym, ◌∙◌}
 use mathlib.Core.Bool.{true, false}
 use mathlib.Core.List.{List}
-use Prim.Native.Nat.{ℕ, ◌+◌, ◌≤◌, ◌<◌}
+use Prim.Native.Nat.{ℕ, ◌+◌, ◌≤◌}
 use native.Mathlib.Omega.{arith}
 use lib.Dec.{eqb}
 use lib.ListN.{length, drop}
@@ -13,9 +13,10 @@ use Rattle.decimal.specs.Numbers.{text}
 use Rattle.decimal.specs.Digits.{peeked}
 use Rattle.decimal.proofs.DigitLaws.{seen}
 use Rattle.service_log.specs.Said.{Said, nothing, numbered, ends, ended, hearing, said_by}
-use Rattle.service_log.specs.Cursor.{Numbered, Tells, Handed}
-use Rattle.service_log.specs.declared.Line.{Line}
-use Rattle.service_log.specs.declared.Piece.{Piece}
+use Rattle.service_log.specs.Cursor.{Numbered, Tells}
+use Rattle.std.specs.Prelude.{Option, Some, None}
+use Rattle.decimal.specs.declared.Number.{Number}
+use Rattle.schedule.specs.declared.Step as schedule
 use Rattle.service_log.proofs.PieceLaws.{peek-drop}
 
 -- ---- the line feed
@@ -30,18 +31,9 @@ ends-not t i e h = ne_eqb _ 10 (λ z. h (e ∙ sym (peek-drop t i) ∙ z))
 pub feed_there : (t : List ℕ) (i : ℕ) {x : ℕ} → x ≡ peeked t i → x ≡ 10 → i + 1 ≤ length t
 feed_there t i {x} e h = let z = seen (λ (x : ℕ). eqb x 10) t i refl e (eq-eqb x 10 h) in omega (arith, z.there)
 
--- ---- a piece that is stuck ends the line, and one that is not goes on
-pub piece_stuck : {t w : List ℕ} {i : ℕ} {n : Piece} (k : ℕ → List ℕ → Said) → Numbered t i w n → n.stuck ≡ true → numbered w k (drop i t) ≡ nothing
-unfolding ◌if◌else◌
-piece_stuck k N h = N.on k ∙ rw h
-
-pub piece_on : {t w : List ℕ} {i : ℕ} {n : Piece} (k : ℕ → List ℕ → Said) → Numbered t i w n → n.stuck ≡ false → numbered w k (drop i t) ≡ k n.value (drop n.place t)
-unfolding ◌if◌else◌
-piece_on k N h = N.on k ∙ rw h
-
 -- ---- after board and rule
 pub silent-line : (t : List ℕ) (p r i : ℕ) {x : ℕ} → p ≤ 255 → r ≤ 255 → x ≡ peeked t i → x ≡ 10 →
-    Tells t i (hearing p r (drop i t)) (Line.Said (record { board = p; rule = r; mtype = 255; source = 255 }) (i + 1))
+    Tells t i (hearing p r (drop i t)) (Some (record { board = p; rule = r; mtype = 255; source = 255 }, i + 1))
 unfolding hearing ◌if◌else◌
 silent-line t p r i lp lr e h = (
   rw (ends_at t i e h, drop-drop 1 i t),
@@ -55,30 +47,30 @@ hearing-on : (t : List ℕ) (p r i : ℕ) {x : ℕ} → x ≡ peeked t i → (x 
 unfolding hearing ◌if◌else◌
 hearing-on t p r i e h = rw (ends-not t i e h)
 
-module _ (t : List ℕ) (p r i : ℕ) {x : ℕ} {m : Piece} (e : x ≡ peeked t i) (h : x ≡ 10 → ⊥) (M : Numbered t i (text " type ") m) where
-  pub no_type : m.stuck ≡ true → hearing p r (drop i t) ≡ nothing
-  no_type z = hearing-on t p r i e h ∙ piece_stuck (λ m. numbered (text " from ") (heard_of p r m)) M z
+module _ (t : List ℕ) (p r i : ℕ) {x : ℕ} (e : x ≡ peeked t i) (h : x ≡ 10 → ⊥) where
+  pub no_type : Numbered t i (text " type ") None → hearing p r (drop i t) ≡ nothing
+  no_type M = hearing-on t p r i e h ∙ M (λ m. numbered (text " from ") (heard_of p r m))
 
-  module _ {q : Piece} (s : m.stuck ≡ false) (Q : Numbered t m.place (text " from ") q) where
+  module _ {m : Number} (M : Numbered t i (text " type ") (Some m)) where
     typed : hearing p r (drop i t) ≡ numbered (text " from ") (heard_of p r m.value) (drop m.place t)
-    typed = hearing-on t p r i e h ∙ piece_on (λ m. numbered (text " from ") (heard_of p r m)) M s
+    typed = hearing-on t p r i e h ∙ M.on (λ m. numbered (text " from ") (heard_of p r m))
 
-    pub no_source : q.stuck ≡ true → hearing p r (drop i t) ≡ nothing
-    no_source z = typed ∙ piece_stuck (heard_of p r m.value) Q z
+    pub no_source : Numbered t m.place (text " from ") None → hearing p r (drop i t) ≡ nothing
+    no_source Q = typed ∙ Q (heard_of p r m.value)
 
-    module _ {y : ℕ} (u : q.stuck ≡ false) (f : y ≡ peeked t q.place) where
+    module _ {q : Number} {y : ℕ} (Q : Numbered t m.place (text " from ") (Some q)) (f : y ≡ peeked t q.place) where
       pub no_feed : (y ≡ 10 → ⊥) → hearing p r (drop i t) ≡ nothing
       unfolding ended ◌if◌else◌
-      no_feed n = typed ∙ piece_on (heard_of p r m.value) Q u ∙ rw (ends-not t q.place f n)
+      no_feed n = typed ∙ Q.on (heard_of p r m.value) ∙ rw (ends-not t q.place f n)
 
       pub heard-line : p ≤ 255 → r ≤ 255 → y ≡ 10 →
-          Tells t i (hearing p r (drop i t)) (Line.Said (record { board = p; rule = r; mtype = m.value; source = q.value }) (q.place + 1))
+          Tells t i (hearing p r (drop i t)) (Some (record { board = p; rule = r; mtype = m.value; source = q.value }, q.place + 1))
       unfolding ended ◌if◌else◌
       heard-line lp lr n = (
-        typed ∙ piece_on (heard_of p r m.value) Q u ∙ rw (ends_at t q.place f n, drop-drop 1 q.place t),
+        typed ∙ Q.on (heard_of p r m.value) ∙ rw (ends_at t q.place f n, drop-drop 1 q.place t),
         record {
           within = feed_there t q.place f n;
-          onward = omega (arith, M.onward s, Q.onward u);
+          onward = omega (arith, M.onward, Q.onward);
           board = lp;
           rule = lr;
           type = M.small;
@@ -87,34 +79,29 @@ module _ (t : List ℕ) (p r i : ℕ) {x : ℕ} {m : Piece} (e : x ≡ peeked t 
       )
 
 -- ---- a whole line
-module _ {t : List ℕ} {i : ℕ} {p : Piece} (P : Numbered t i (text "board ") p) where
-  pub no_board : p.stuck ≡ true → said_by (drop i t) ≡ nothing
+pub no_board : (t : List ℕ) (i : ℕ) → Numbered t i (text "board ") None → said_by (drop i t) ≡ nothing
+unfolding said_by
+no_board t i P = P (λ p. numbered (text " rule ") (hearing p))
+
+module _ {t : List ℕ} {i : ℕ} {p : Number} (P : Numbered t i (text "board ") (Some p)) where
+  boarded : said_by (drop i t) ≡ numbered (text " rule ") (hearing p.value) (drop p.place t)
   unfolding said_by
-  no_board z = piece_stuck (λ p. numbered (text " rule ") (hearing p)) P z
+  boarded = P.on (λ p. numbered (text " rule ") (hearing p))
 
-  module _ {r : Piece} (s : p.stuck ≡ false) (R : Numbered t p.place (text " rule ") r) where
-    boarded : said_by (drop i t) ≡ numbered (text " rule ") (hearing p.value) (drop p.place t)
-    unfolding said_by
-    boarded = piece_on (λ p. numbered (text " rule ") (hearing p)) P s
+  pub no_rule : Numbered t p.place (text " rule ") None → said_by (drop i t) ≡ nothing
+  no_rule R = boarded ∙ R (hearing p.value)
 
-    pub no_rule : r.stuck ≡ true → said_by (drop i t) ≡ nothing
-    no_rule z = boarded ∙ piece_stuck (hearing p.value) R z
-
-    -- what the rest of the line tells is what the line tells
-    pub whole-line : (x : Line) → i < length t → r.stuck ≡ false → Tells t r.place (hearing p.value r.value (drop r.place t)) x → Handed t i x
-    whole-line Line.End l u T = absurd T
-    whole-line Line.Other l u T = (l, boarded ∙ piece_on (hearing p.value) R u ∙ T)
-    whole-line (Line.Said x j) l u T = (
-      l,
-      (
-        boarded ∙ piece_on (hearing p.value) R u ∙ T.0,
-        record {
-          within = T.1.within;
-          onward = omega (arith, P.onward s, R.onward u, T.1.onward);
-          board = T.1.board;
-          rule = T.1.rule;
-          type = T.1.type;
-          source = T.1.source;
-        },
-      ),
-    )
+  -- what the rest of the line tells is what the line tells
+  pub whole-line : {r : Number} (x : Option (schedule.Step × ℕ)) → Numbered t p.place (text " rule ") (Some r) → Tells t r.place (hearing p.value r.value (drop r.place t)) x → Tells t i (said_by (drop i t)) x
+  whole-line None R T = boarded ∙ R.on (hearing p.value) ∙ T
+  whole-line (Some (x, j)) R T = (
+    boarded ∙ R.on (hearing p.value) ∙ T.0,
+    record {
+      within = T.1.within;
+      onward = omega (arith, P.onward, R.onward, T.1.onward);
+      board = T.1.board;
+      rule = T.1.rule;
+      type = T.1.type;
+      source = T.1.source;
+    },
+  )

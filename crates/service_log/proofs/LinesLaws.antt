@@ -1,5 +1,5 @@
 -- A whole log, line by line: the refusal and the steps from each line on.
-use mathlib.Core.Path.{◌≡◌, refl, sym, ap, ◌∙◌}
+use mathlib.Core.Path.{◌≡◌, refl, sym, ap, subst, ◌∙◌}
 use mathlib.Core.Bool.{Bool, true, false, true≢false}
 use mathlib.Core.List.{List, [], ◌∷◌}
 use Prim.Native.Nat.{ℕ, zero, suc, ◌+◌, ◌-◌, ◌≤◌, ◌<◌}
@@ -8,14 +8,17 @@ use lib.ListN.{length, drop, length-drop, drop_of_length-le}
 use borrow.Author.Tests.{ne_eqb}
 use Rattle.fault.specs.Bytes.{most_steps}
 use Rattle.fault.specs.Fault.{verdict, fine, ◌if◌else◌}
-use Rattle.fault.specs.declared.Verdict.{Verdict}
+use Rattle.std.specs.Prelude.{Result, Ok, Err}
+use Rattle.fault.specs.Refusals as fault
+use Rattle.fault.specs.declared.refusals.Refused.{Refused}
+use Rattle.fault.specs.declared.refusals.Refusal.TheVariants.{WrongLine, TooManyLines}
 use Rattle.paper.specs.Paper.{Step}
 use Rattle.schedule.specs.Records.{meant, put_record, put_from}
 use Rattle.schedule.specs.declared.Step as schedule
 use Rattle.schedule.proofs.RecordLaws.{put-length}
 use Rattle.service_log.specs.Said.{Said, nothing, said, begins, numbered, said_by}
 use Rattle.service_log.specs.Lines.{judged, fault_from, taken, steps_from, log_fault, log_steps}
-use Rattle.service_log.specs.Cursor.{Handed}
+use Rattle.service_log.specs.Cursor.{right_lines, Handed}
 use Rattle.service_log.specs.declared.Line.{Line}
 
 abbrev told : Said → Bool
@@ -75,10 +78,9 @@ pub record Taking (log out₀ : List ℕ) (at i : ℕ) (out : List ℕ) : Type 0
   pub written : put_from 0 (log_steps log) out₀ ≡ put_from i (steps_from (most_steps - i) (drop at log)) out
 
 -- what is answered and left
-pub record Took (log out₀ : List ℕ) (v : Verdict) (n : ℕ) (out : List ℕ) : Type 0 where
-  pub number : v.number ≡ (log_fault log).number
-  pub place : v.place ≡ (log_fault log).place
-  pub count : n ≡ length (log_steps log)
+pub record Took (log out₀ : List ℕ) (r : Result ℕ Refused) (out : List ℕ) : Type 0 where
+  pub fault : fault.told r ≡ log_fault log
+  pub count : right_lines r ≡ length (log_steps log)
   pub written : out ≡ put_from 0 (log_steps log) out₀
 
 pub taking_none : (log out : List ℕ) → Taking log out 0 0 out
@@ -86,37 +88,38 @@ taking_none log out = record { few = omega arith; long = refl; fault = refl; cou
 
 module _ {log out₀ : List ℕ} {at i : ℕ} {out : List ℕ} (T : Taking log out₀ at i out) where
   -- no step is left
-  took : (v : Verdict) → fault_from (most_steps - i) i (drop at log) ≡ v → steps_from (most_steps - i) (drop at log) ≡ [] → Took log out₀ v i out
+  took : (r : Result ℕ Refused) → right_lines r ≡ i → fault_from (most_steps - i) i (drop at log) ≡ fault.told r → steps_from (most_steps - i) (drop at log) ≡ [] → Took log out₀ r out
   unfolding put_from
-  took v e f =
-      let g = sym (T.fault ∙ e) in
-      record {
-        number = ap (λ (v : Verdict). v.number) g;
-        place = ap (λ (v : Verdict). v.place) g;
-        count = omega (arith, T.count, ap length f);
-        written = sym (T.written ∙ ap (λ (ss : List Step). put_from i ss out) f);
-      }
+  took r n e f = record {
+    fault = sym (T.fault ∙ e);
+    count = omega (arith, n, T.count, ap length f);
+    written = sym (T.written ∙ ap (λ (ss : List Step). put_from i ss out) f);
+  }
 
-  pub taking_end : length log ≤ at → Took log out₀ fine i out
+  pub taking_end : length log ≤ at → Took log out₀ (Ok i) out
   taking_end h =
       let e = drop_of_length-le log h in
-      took fine (ap (fault_from (most_steps - i) i) e ∙ fault-none (most_steps - i) i) (steps-none (most_steps - i) _ (ap said_by e ∙ said-none))
+      took (Ok i) refl (ap (fault_from (most_steps - i) i) e ∙ fault-none (most_steps - i) i) (steps-none (most_steps - i) _ (ap said_by e ∙ said-none))
 
   left_there : at < length log → length (drop at log) ≡ 0 → ⊥
   left_there l z = omega (arith, z, length-drop at log)
 
-  pub taking_long : most_steps ≤ i → at < length log → Took log out₀ (verdict 51 i) i out
+  pub taking_long : most_steps ≤ i → at < length log → Took log out₀ (Err (record { refusal = TooManyLines; place = most_steps })) out
   unfolding steps_from
   taking_long l h =
       let n : most_steps - i ≡ 0 = omega arith in
-      took (verdict 51 i) (rw n (fault-many i _ (left_there h))) (rw n)
+      let e : i ≡ most_steps = omega (arith, T.few) in
+      took (Err (record { refusal = TooManyLines; place = most_steps })) (sym e) (rw n (fault-many i _ (left_there h)) ∙ ap (verdict 51) e) (rw n)
+
+  pub taking_full : most_steps ≤ i → length log ≤ at → Took log out₀ (Ok most_steps) out
+  taking_full l h = let e : i ≡ most_steps = omega (arith, T.few) in subst (λ (n : ℕ). Took log out₀ (Ok n) out) e (taking_end h)
 
   module _ (l : i < most_steps) where
     one_less : most_steps - i ≡ suc (most_steps - (i + 1))
     one_less = omega arith
 
-    pub taking_other : Handed log at Line.Other → Took log out₀ (verdict 50 i) i out
-    taking_other H = took (verdict 50 i) (rw one_less (fault-wrong _ i _ (left_there H.0) H.1)) (steps-none (most_steps - i) _ H.1)
+    pub taking_other : Handed log at Line.Other → Took log out₀ (Err (record { refusal = WrongLine; place = i })) out
+    taking_other H = took (Err (record { refusal = WrongLine; place = i })) refl (rw one_less (fault-wrong _ i _ (left_there H.0) H.1)) (steps-none (most_steps - i) _ H.1)
 
     pub taking_more : (x : schedule.Step) (j : ℕ) (u : List ℕ) → Handed log at (Line.Said x j) → u ≡ put_record out i (meant x) → Taking log out₀ j (i + 1) u
     unfolding put_from

@@ -9,7 +9,7 @@ use lib.ListN.{length}
 use borrow.Author.Tests.{eqb-true, eqb-false}
 use Rattle.fault.specs.Bytes.{most_steps}
 use Rattle.fault.specs.Fault.{verdict, fine}
-use Rattle.fault.specs.declared.Verdict.{Verdict}
+use Rattle.fault.specs.Fault.{Verdict}
 use Rattle.paper.specs.Paper.{Step}
 use Rattle.service_log.specs.Line.{line_of, log_of, AllSayable}
 use Rattle.service_log.specs.Said.{Said, nothing, said, said_by}

@@ -1,6 +1,6 @@
 -- The pieces of a line: a word by its bytes, a number after it, and the line feed.
 use mathlib.Core.Path.{◌≡◌, refl, sym, ap, ◌∙◌}
-use mathlib.Core.Bool.{Bool, true, false, ◌&&◌, true≢false, false≢true}
+use mathlib.Core.Bool.{Bool, true, false, ◌&&◌, false≢true}
 use mathlib.Core.List.{List, []}
 use Prim.Native.Nat.{ℕ, suc, ◌+◌, ◌-◌, ◌*◌, ◌≤◌, ◌<◌}
 use native.Mathlib.Omega.{arith}
@@ -16,7 +16,7 @@ use Rattle.decimal.specs.declared.Number.{Number}
 use Rattle.decimal.proofs.DigitLaws.{peek-there, digit-range}
 use Rattle.service_log.specs.Said.{Said, nothing, begins, counted, numbered}
 use Rattle.service_log.specs.Cursor.{Four, Numbered}
-use Rattle.service_log.specs.declared.Piece.{Piece}
+use Rattle.std.specs.Prelude.{Option, Some, None}
 
 -- peeking into the rest of a text is peeking further on
 pub peek-drop : (t : List ℕ) (i : ℕ) → peeked (drop i t) 0 ≡ peeked t i
@@ -124,16 +124,9 @@ module _ {w t : List ℕ} {i a b c d : ℕ} (six : length w ≡ 6) (l : i + 6 �
           rw (eq-eqb a b ab, eq-eqb c d cd)
 
 -- ---- numbers
-pub number-none : {t : List ℕ} {i x : ℕ} {b : Bool} {n : Piece} → i < length t → x ≡ byte_at t i → b ≡ is_digit x → b ≡ false → n ≡ record { stuck = true; place = 0; value = 0 } → Numbered t i [] n
+pub number-none : (t : List ℕ) (i : ℕ) {x : ℕ} {b : Bool} → i < length t → x ≡ byte_at t i → b ≡ is_digit x → b ≡ false → Numbered t i [] None
 unfolding numbered begins counted ◌if◌else◌
-number-none {t} {i} {x} l e eb h f =
-    rw f
-    (record {
-      on = λ k. rw (peek-drop t i ∙ sym (peek-there t i l e), sym eb ∙ h);
-      within = omega arith;
-      onward = λ z. absurd (true≢false z);
-      small = omega arith;
-    })
+number-none t i l e eb h = λ k. rw (peek-drop t i ∙ sym (peek-there t i l e), sym eb ∙ h)
 
 -- what the first digit is
 pub record First (x : ℕ) : Type 0 where
@@ -141,42 +134,27 @@ pub record First (x : ℕ) : Type 0 where
   pub size : x - 48 ≤ 255
 
 pub first-digit : {x : ℕ} {b : Bool} → b ≡ is_digit x → b ≡ true → First x
-first-digit {x} eb h = let d = digit-range x (sym eb ∙ h) in record { least = d.from; size = omega (arith, d.to) }
+first-digit {x} {b} eb h = let d = digit-range x (sym eb ∙ h) in record { least = d.from; size = omega (arith, d.to) }
 
-pub number_read : {t : List ℕ} {i x : ℕ} {b : Bool} {n : Number} → i < length t → x ≡ byte_at t i → b ≡ is_digit x → b ≡ true → Ends t (i + 1) (x - 48) 254 n →
-    Numbered t i [] (record { stuck = false; place = n.place; value = n.value })
+pub number_read : {t : List ℕ} {i x : ℕ} {b : Bool} {n : Number} → i < length t → x ≡ byte_at t i → b ≡ is_digit x → b ≡ true → Ends t (i + 1) (x - 48) 254 n → Numbered t i [] (Some n)
 unfolding numbered begins counted ◌if◌else◌
 number_read {t} {i} {x} {b} {n} l e eb h N =
     record {
       on = λ k. rw (peek-drop t i ∙ sym (peek-there t i l e), sym eb ∙ h, drop-drop 1 i t, N.whole);
       within = N.within;
-      onward = λ _. omega (arith, N.onward);
+      onward = omega (arith, N.onward);
       small = N.small;
     }
 
 -- ---- a word and a number
-pub numbered-none : {t w : List ℕ} {i : ℕ} {b : Bool} {n : Piece} → b ≡ begins w (drop i t) → b ≡ false → n ≡ record { stuck = true; place = 0; value = 0 } → Numbered t i w n
+pub numbered-none : (t w : List ℕ) (i : ℕ) {b : Bool} → b ≡ begins w (drop i t) → b ≡ false → Numbered t i w None
 unfolding numbered ◌if◌else◌
-numbered-none e h f =
-    rw f
-    (record {
-      on = λ k. rw (sym e ∙ h);
-      within = omega arith;
-      onward = λ z. absurd (true≢false z);
-      small = omega arith;
-    })
+numbered-none t w i e h = λ k. rw (sym e ∙ h)
 
 -- a word of six bytes and a digit do not fit in fewer than seven
-pub numbered-short : {t : List ℕ} (w : List ℕ) {i : ℕ} {n : Piece} → length w ≡ 6 → length t - i < 7 → n ≡ record { stuck = true; place = 0; value = 0 } → Numbered t i w n
+pub numbered-short : (t w : List ℕ) (i : ℕ) → length w ≡ 6 → length t - i < 7 → Numbered t i w None
 unfolding numbered counted is_digit ◌if◌else◌
-numbered-short {t} w {i} six l f =
-    rw f
-    (record {
-      on = λ k. split k (begins w (drop i t)) refl;
-      within = omega arith;
-      onward = λ z. absurd (true≢false z);
-      small = omega arith;
-    })
+numbered-short t w i six l = λ k. split k (begins w (drop i t)) refl
   where
     split : (k : ℕ → List ℕ → Said) (b : Bool) → begins w (drop i t) ≡ b → numbered w k (drop i t) ≡ nothing
     split k false e = rw e
@@ -184,12 +162,14 @@ numbered-short {t} w {i} six l f =
         let o : length (drop i t) ≤ length w = rw (length-drop i t, six) (omega (arith, l)) in
         rw (e, drop_of_length-le (drop i t) o, peek-nothing)
 
-pub numbered-some : {t w : List ℕ} {i : ℕ} {b : Bool} {n : Piece} → length w ≡ 6 → b ≡ begins w (drop i t) → b ≡ true → Numbered t (i + 6) [] n → Numbered t i w n
+-- what comes after the word is what it is followed by
+pub numbered-some : (t w : List ℕ) (i : ℕ) {b : Bool} (n : Option Number) → length w ≡ 6 → b ≡ begins w (drop i t) → b ≡ true → Numbered t (i + 6) [] n → Numbered t i w n
 unfolding numbered begins ◌if◌else◌
-numbered-some {t} {w} {i} six e h C =
+numbered-some t w i None six e h N = λ k. rw (sym e ∙ h, six, drop-drop 6 i t) (N k)
+numbered-some t w i (Some n) six e h N =
     record {
-      on = λ k. rw (sym e ∙ h, six, drop-drop 6 i t) (C.on k);
-      within = C.within;
-      onward = λ z. omega (arith, C.onward z);
-      small = C.small;
+      on = λ k. rw (sym e ∙ h, six, drop-drop 6 i t) (N.on k);
+      within = N.within;
+      onward = omega (arith, N.onward);
+      small = N.small;
     }

@@ -3,7 +3,7 @@
 use Rattle.std.specs.Prelude.{◌≡◌, true, List, [], ◌∷◌, ◌++◌, ℕ, zero, suc, ◌+◌, ◌≤◌, ◌<◌, eqb, length}
 use Rattle.fault.specs.Bytes.{most_steps}
 use Rattle.fault.specs.Fault.{verdict, fine, ◌if◌else◌}
-use Rattle.fault.specs.declared.Verdict.{Verdict}
+use Rattle.fault.specs.Fault.{Verdict}
 use Rattle.paper.specs.Paper.{Step}
 use Rattle.service_log.specs.Line.{sayable, line_of, log_of, first_line, Right, AllSayable}
 use Rattle.service_log.specs.Said.{Said, nothing, said, said_by}

@@ -1,13 +1,16 @@
 // A service log: each line says a step. Lines are read one by one from a slice and a place; `Reader` keeps both.
 #![tactic(auto)]
 
-ghost use Rattle.std.specs.Prelude.{◌≡◌, [], true, ◌+◌, ◌*◌, ◌≤◌, ◌<◌, length, drop};
+ghost use Rattle.std.specs.Prelude.{◌≡◌, [], ◌+◌, ◌*◌, ◌≤◌, ◌<◌, length, drop};
+ghost use Rattle.fault.specs.Refusals.{told};
 ghost use Rattle.schedule.specs.Records.{put_from};
-ghost use Rattle.service_log.specs.Said.{hearing};
+ghost use Rattle.service_log.specs.Said.{hearing, said_by};
 ghost use Rattle.service_log.specs.Said as said;
 ghost use Rattle.service_log.specs.Lines.{log_fault, log_steps};
-ghost use Rattle.service_log.specs.Cursor.{Four, Numbered, Tells, Handed};
+ghost use Rattle.service_log.specs.Cursor.{right_lines, Four, Numbered, Tells, Handed};
 
+use decimal::Number;
+use fault::refusals::{Refusal, Refused};
 use schedule::Step;
 
 // The largest number that a line says.
@@ -24,14 +27,6 @@ pub enum Line {
     Said { step: Step, next: usize },
 }
 
-// A number that was read after its word, and the place after it; or stuck, where they do not stand.
-#[derive(Clone, Copy)]
-pub struct Piece {
-    pub stuck: bool,
-    pub place: usize,
-    pub value: usize,
-}
-
 // A log and a place in it.
 #[derive(Clone, Copy)]
 pub struct Reader<'a> {
@@ -39,18 +34,10 @@ pub struct Reader<'a> {
     pub at: usize,
 }
 
-// The refusal of a log and its place, or 0 and 0; and how many lines are right before that.
-#[derive(Clone, Copy)]
-pub struct Lines {
-    pub number: usize,
-    pub place: usize,
-    pub count: usize,
-}
-
 // ---- whole logs
-// The refusal of a log, and how many lines are right.
-pub fn check_lines(log: &[u8]) -> Lines
-    ensures { (result.number ≡ (log_fault log.now).number) × (result.place ≡ (log_fault log.now).place) × (result.count ≡ length (log_steps log.now)) }
+// The refusal of a log; or how many lines it has, which all are right.
+pub fn check_lines(log: &[u8]) -> Result<usize, Refused>
+    ensures { (told result ≡ log_fault log.now) × (right_lines result ≡ length (log_steps log.now)) }
 {
     // No record fits in one byte.
     let mut none = [0u8; 1];
@@ -58,47 +45,33 @@ pub fn check_lines(log: &[u8]) -> Lines
 }
 
 // Looks at every line, up to the first that is not right or is one too many, and puts the records of the right ones into `out`, so far as they fit.
-pub fn take_lines(log: &[u8], out: &mut [u8]) -> Lines
-    ensures number_value { (result.number ≡ (log_fault log.now).number) × (result.place ≡ (log_fault log.now).place) × (result.count ≡ length (log_steps log.now)) }
+pub fn take_lines(log: &[u8], out: &mut [u8]) -> Result<usize, Refused>
+    ensures number_value { (told result ≡ log_fault log.now) × (right_lines result ≡ length (log_steps log.now)) }
     ensures out_after { out.new ≡ put_from 0 (log_steps log.now) out.old }
 {
     let mut at = 0;
-    let mut i = 0;
-    while i < MOST_LINES {
+    for place in 0..MOST_LINES {
         match line_from(log, at) {
-            Line::End => {
-                return Lines {
-                    number: 0,
-                    place: 0,
-                    count: i,
-                };
-            }
+            Line::End => return Ok(place),
             Line::Other => {
-                return Lines {
-                    number: 50,
-                    place: i,
-                    count: i,
-                };
+                return Err(Refused {
+                    refusal: Refusal::WrongLine,
+                    place,
+                });
             }
             Line::Said { step, next } => {
-                schedule::put_step(out, i, step);
+                schedule::put_step(out, place, step);
                 at = next;
             }
         }
-        i += 1;
     }
     if at < log.len() {
-        return Lines {
-            number: 51,
-            place: i,
-            count: i,
-        };
+        return Err(Refused {
+            refusal: Refusal::TooManyLines,
+            place: MOST_LINES,
+        });
     }
-    Lines {
-        number: 0,
-        place: 0,
-        count: i,
-    }
+    Ok(MOST_LINES)
 }
 
 // ---- the reader
@@ -138,68 +111,62 @@ pub fn line_at(log: &[u8], at: usize) -> Line
     if log.len() <= at {
         return Line::End;
     }
-    let p = numbered(log, at, b"board ");
-    if p.stuck {
-        return Line::Other;
+    match said_at(log, at) {
+        Some((step, next)) => Line::Said { step, next },
+        None => Line::Other,
     }
-    let r = numbered(log, p.place, b" rule ");
-    if r.stuck {
-        return Line::Other;
-    }
-    rest_of_line(log, p.value, r.value, r.place)
+}
+
+// The step that a right line says, and where the next line begins.
+fn said_at(log: &[u8], at: usize) -> Option<(Step, usize)>
+    requires { at ≤ length log.now }
+    ensures { Tells log.now at (said_by (drop at log.now)) result }
+{
+    let board = numbered(log, at, b"board ")?;
+    let rule = numbered(log, board.place, b" rule ")?;
+    rest_of_line(log, board.value, rule.value, rule.place)
 }
 
 // The rest of a line after its board and rule.
-fn rest_of_line(log: &[u8], board: usize, rule: usize, at: usize) -> Line
+fn rest_of_line(log: &[u8], board: usize, rule: usize, at: usize) -> Option<(Step, usize)>
     requires { (at ≤ length log.now) × (board ≤ 255) × (rule ≤ 255) }
     ensures { Tells log.now at (hearing board rule (drop at log.now)) result }
 {
     if decimal::peek(log, at) == 10 {
-        return Line::Said {
-            step: Step {
-                board,
-                rule,
-                mtype: 255,
-                source: 255,
-            },
-            next: at + 1,
-        };
-    }
-    let m = numbered(log, at, b" type ");
-    if m.stuck {
-        return Line::Other;
-    }
-    let q = numbered(log, m.place, b" from ");
-    if q.stuck {
-        return Line::Other;
-    }
-    let end = q.place;
-    if decimal::peek(log, end) != 10 {
-        return Line::Other;
-    }
-    Line::Said {
-        step: Step {
+        let step = Step {
             board,
             rule,
-            mtype: m.value,
-            source: q.value,
-        },
-        next: end + 1,
+            mtype: 255,
+            source: 255,
+        };
+        return Some((step, at + 1));
     }
+    let mtype = numbered(log, at, b" type ")?;
+    let source = numbered(log, mtype.place, b" from ")?;
+    if decimal::peek(log, source.place) != 10 {
+        return None;
+    }
+    let step = Step {
+        board,
+        rule,
+        mtype: mtype.value,
+        source: source.value,
+    };
+    Some((step, source.place + 1))
 }
 
 // A word of six bytes, which all words of a line have, and a number after it. Both take seven bytes at least.
-fn numbered(log: &[u8], at: usize, word: &[u8]) -> Piece
+fn numbered(log: &[u8], at: usize, word: &[u8]) -> Option<Number>
     requires { (at ≤ length log.now) × (length word.now ≡ 6) }
     ensures { Numbered log.now at word.now result }
 {
     if log.len() - at < 7 {
-        return stuck();
+        return None;
     }
-    if begins(log, at, word) {
-        return number(log, at + 6);
+    if !begins(log, at, word) {
+        return None;
     }
-    stuck()
+    number(log, at + 6)
 }
 
 // Does the word stand here? Its bytes are compared four and two at a time.
@@ -219,29 +186,13 @@ fn four(s: &[u8], i: usize) -> usize
 }
 
 // A number of at most 254.
-fn number(log: &[u8], at: usize) -> Piece
+fn number(log: &[u8], at: usize) -> Option<Number>
     requires { at < length log.now }
     ensures { Numbered log.now at [] result }
 {
     let x = fault::byte_at(log, at);
-    if decimal::is_digit(x) {
-        let n = decimal::rest(log, at + 1, x - 48, MOST);
-        return Piece {
-            stuck: false,
-            place: n.place,
-            value: n.value,
-        };
+    if !decimal::is_digit(x) {
+        return None;
     }
-    stuck()
-}
-
-// No number was read.
-fn stuck() -> Piece
-    ensures { result ≡ record { stuck = true; place = 0; value = 0 } }
-{
-    Piece {
-        stuck: true,
-        place: 0,
-        value: 0,
-    }
+    Some(decimal::rest(log, at + 1, x - 48, MOST))
 }

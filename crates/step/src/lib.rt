@@ -5,95 +5,102 @@ ghost use Rattle.std.specs.Prelude.{◌≡◌, true, false, not, ◌||◌, ◌+�
 ghost use Rattle.senders.specs.Tally.{digit};
 ghost use Rattle.senders.specs.Set.{correct_count};
 ghost use Rattle.fault.specs.Tests.{◌at_least◌, ◌at_most◌, ◌differs◌};
+ghost use Rattle.fault.specs.Refusals.{code};
 ghost use Rattle.paper.specs.Paper as paper;
 ghost use Rattle.paper.specs.Words.{state};
 ghost use Rattle.paper.specs.Step.{step_fault};
 ghost use Rattle.schedule.specs.Records.{meant};
 ghost use Rattle.words.specs.Words.{room_of, column_in, stopped_of};
 ghost use Rattle.words.specs.Facts.{at_rest, in_step, Bounded, Holds, Grown};
-ghost use Rattle.rules.specs.Kept.{kept_room, kept_from, ByDesign};
+ghost use Rattle.rules.specs.Kept.{kept_from, ByDesign};
 ghost use Rattle.step.specs.Step.{left_by, met_with, moved_by, taken_fault, taken_left, kept_fault, kept_left, Awake, Leaves};
 
+use fault::refusals::Refusal;
+use rules::Rules;
 use schedule::Step;
 use words::Sizes;
 
 // The rule of a step that stops its board.
 pub const STOP: usize = 254;
 
-// The step if it is accepted, and 0; or its refusal, and no change: for every design that the kept rules stand for.
-pub fn step(s: Sizes, ends: &[u8], leasts: &[u16], w: &mut [u64], x: Step) -> usize
-    requires { (Bounded s) × (length ends.now ≡ kept_room) × (length leasts.now ≡ kept_room) × (Holds s at_rest w.old) }
-    ensures by_design { ByDesign s ends.now leasts.now (λ d. result ≡ step_fault s.level d w.old (meant x)) }
-    ensures by_design_2 { ByDesign s ends.now leasts.now (λ d. w.new ≡ left_by s.level d w.old (meant x)) }
-    ensures grown { Grown s w.old w.new }
+// The step if it is accepted; or its refusal, and no change: for every design that the kept rules stand for.
+pub fn step(rules: Rules, w: &mut [u64], x: Step) -> Result<(), Refusal>
+    requires { Holds rules.sizes at_rest w.old }
+    ensures by_design { ByDesign rules.entry.sizes rules.entry.ends.now rules.entry.leasts.now (λ d. code result ≡ step_fault rules.entry.sizes.level d w.old (meant x)) }
+    ensures by_design_2 { ByDesign rules.entry.sizes rules.entry.ends.now rules.entry.leasts.now (λ d. w.new ≡ left_by rules.entry.sizes.level d w.old (meant x)) }
+    ensures grown { Grown rules.entry.sizes w.old w.new }
 {
-    kept_step(s, ends, leasts, w, x)
+    kept_step(rules, w, x)
 }
 
 // The same by the kept rules themselves. A step without a message goes its own way after the checks that both have, so that
 // neither asks again whether there is one.
-fn kept_step(s: Sizes, ends: &[u8], leasts: &[u16], w: &mut [u64], x: Step) -> usize
-    requires { (Bounded s) × (length ends.now ≡ kept_room) × (length leasts.now ≡ kept_room) × (Holds s at_rest w.old) }
-    ensures value { result ≡ kept_fault s ends.now leasts.now w.old (meant x) }
-    ensures w_after { w.new ≡ kept_left s ends.now leasts.now w.old (meant x) }
+fn kept_step(rules: Rules, w: &mut [u64], x: Step) -> Result<(), Refusal>
+    requires { Holds rules.sizes at_rest w.old }
+    ensures value { code result ≡ kept_fault rules.entry.sizes rules.entry.ends.now rules.entry.leasts.now w.old (meant x) }
+    ensures w_after { w.new ≡ kept_left rules.entry.sizes rules.entry.ends.now rules.entry.leasts.now w.old (meant x) }
 {
-    if at_least(x.board, s.correct) {
-        return 20;
+    if at_least(x.board, rules.sizes.correct) {
+        return Err(Refusal::NoBoard);
     }
-    if words::is_stopped(s, w, x.board) {
-        return 26;
+    if words::is_stopped(rules.sizes, w, x.board) {
+        return Err(Refusal::Stopped);
     }
     if schedule::silent(x) {
-        return silent_step(s, ends, leasts, w, x);
+        return silent_step(rules, w, x);
     }
-    message_step(s, ends, leasts, w, x)
+    message_step(rules, w, x)
 }
 
 // The rest of a step without a message, of a board that is not stopped. No table has the rule of a stop.
-fn silent_step(s: Sizes, ends: &[u8], leasts: &[u16], w: &mut [u64], x: Step) -> usize
-    requires { (Bounded s) × (length ends.now ≡ kept_room) × (length leasts.now ≡ kept_room) × (Holds s at_rest w.old) × (Awake s w.old (meant x)) × (paper.silent (meant x) ≡ true) }
-    ensures value { result ≡ kept_fault s ends.now leasts.now w.old (meant x) }
-    ensures w_after { w.new ≡ kept_left s ends.now leasts.now w.old (meant x) }
+fn silent_step(rules: Rules, w: &mut [u64], x: Step) -> Result<(), Refusal>
+    requires { (Holds rules.sizes at_rest w.old) × (Awake rules.sizes w.old (meant x)) × (paper.silent (meant x) ≡ true) }
+    ensures value { code result ≡ kept_fault rules.entry.sizes rules.entry.ends.now rules.entry.leasts.now w.old (meant x) }
+    ensures w_after { w.new ≡ kept_left rules.entry.sizes rules.entry.ends.now rules.entry.leasts.now w.old (meant x) }
 {
-    if at_least(x.rule, s.rules) {
-        return past_rules(s, ends, leasts, w, x);
+    if at_least(x.rule, rules.sizes.rules) {
+        return past_rules(rules, w, x);
     }
-    if other_state(ends, w, x.board, x.rule) {
-        return 22;
+    if other_state(rules, w, x.board, x.rule) {
+        return Err(Refusal::OtherState);
     }
-    without_message(s, ends, leasts, w, x)
+    without_message(rules, w, x)
 }
 
 // The rest of a step with one.
-fn message_step(s: Sizes, ends: &[u8], leasts: &[u16], w: &mut [u64], x: Step) -> usize
-    requires { (Bounded s) × (length ends.now ≡ kept_room) × (length leasts.now ≡ kept_room) × (Holds s at_rest w.old) × (Awake s w.old (meant x)) × (paper.silent (meant x) ≡ false) }
-    ensures value { result ≡ kept_fault s ends.now leasts.now w.old (meant x) }
-    ensures w_after { w.new ≡ kept_left s ends.now leasts.now w.old (meant x) }
+fn message_step(rules: Rules, w: &mut [u64], x: Step) -> Result<(), Refusal>
+    requires { (Holds rules.sizes at_rest w.old) × (Awake rules.sizes w.old (meant x)) × (paper.silent (meant x) ≡ false) }
+    ensures value { code result ≡ kept_fault rules.entry.sizes rules.entry.ends.now rules.entry.leasts.now w.old (meant x) }
+    ensures w_after { w.new ≡ kept_left rules.entry.sizes rules.entry.ends.now rules.entry.leasts.now w.old (meant x) }
 {
-    if at_least(x.rule, s.rules) {
-        return if x.rule == STOP { 23 } else { 21 };
+    if at_least(x.rule, rules.sizes.rules) {
+        return Err(if x.rule == STOP {
+            Refusal::Malformed
+        } else {
+            Refusal::NoRule
+        });
     }
-    if other_state(ends, w, x.board, x.rule) {
-        return 22;
+    if other_state(rules, w, x.board, x.rule) {
+        return Err(Refusal::OtherState);
     }
-    with_message(s, ends, leasts, w, x)
+    with_message(rules, w, x)
 }
 
 // ---- stops
 // A rule that no table has, without a message: a stop, or 21.
-fn past_rules(s: Sizes, ends: &[u8], leasts: &[u16], w: &mut [u64], x: Step) -> usize
-    requires { (Bounded s) × (length ends.now ≡ kept_room) × (length leasts.now ≡ kept_room) × (Holds s at_rest w.old) × (Awake s w.old (meant x)) × (paper.silent (meant x) ≡ true) × (s.rules ≤ x.rule) }
-    ensures value { result ≡ kept_fault s ends.now leasts.now w.old (meant x) }
-    ensures w_after { w.new ≡ kept_left s ends.now leasts.now w.old (meant x) }
+fn past_rules(rules: Rules, w: &mut [u64], x: Step) -> Result<(), Refusal>
+    requires { (Holds rules.sizes at_rest w.old) × (Awake rules.sizes w.old (meant x)) × (paper.silent (meant x) ≡ true) × (rules.sizes.rules ≤ x.rule) }
+    ensures value { code result ≡ kept_fault rules.entry.sizes rules.entry.ends.now rules.entry.leasts.now w.old (meant x) }
+    ensures w_after { w.new ≡ kept_left rules.entry.sizes rules.entry.ends.now rules.entry.leasts.now w.old (meant x) }
 {
     if x.rule != STOP {
-        return 21;
+        return Err(Refusal::NoRule);
     }
-    if may_stop(s, w) {
-        words::stop(s, w, x.board);
-        return 0;
+    if may_stop(rules.sizes, w) {
+        words::stop(rules.sizes, w, x.board);
+        return Ok(());
     }
-    27
+    Err(Refusal::MayNotStop)
 }
 
 // May one board more be stopped?
@@ -106,36 +113,36 @@ fn may_stop(s: Sizes, w: &[u64]) -> bool
 
 // ---- by a rule that leaves the board's state
 // The rest of a step without a message.
-fn without_message(s: Sizes, ends: &[u8], leasts: &[u16], w: &mut [u64], x: Step) -> usize
-    requires { (Bounded s) × (length ends.now ≡ kept_room) × (length leasts.now ≡ kept_room) × (Holds s at_rest w.old) × (Leaves s ends.now w.old (meant x)) × (paper.silent (meant x) ≡ true) }
-    ensures value { result ≡ taken_fault s ends.now leasts.now w.old (meant x) }
-    ensures w_after { w.new ≡ taken_left s ends.now leasts.now w.old (meant x) }
+fn without_message(rules: Rules, w: &mut [u64], x: Step) -> Result<(), Refusal>
+    requires { (Holds rules.sizes at_rest w.old) × (Leaves rules.sizes rules.ends.now w.old (meant x)) × (paper.silent (meant x) ≡ true) }
+    ensures value { code result ≡ taken_fault rules.entry.sizes rules.entry.ends.now rules.entry.leasts.now w.old (meant x) }
+    ensures w_after { w.new ≡ taken_left rules.entry.sizes rules.entry.ends.now rules.entry.leasts.now w.old (meant x) }
 {
-    if not_met(s, leasts, w, x.board, x.rule, x.mtype) {
-        return 25;
+    if not_met(rules, w, x.board, x.rule, x.mtype) {
+        return Err(Refusal::NotMet);
     }
-    move_on(s, ends, w, x.board, x.rule);
-    0
+    move_on(rules, w, x.board, x.rule);
+    Ok(())
 }
 
 // The rest of a step with one: it is received before the move.
-fn with_message(s: Sizes, ends: &[u8], leasts: &[u16], w: &mut [u64], x: Step) -> usize
-    requires { (Bounded s) × (length ends.now ≡ kept_room) × (length leasts.now ≡ kept_room) × (Holds s at_rest w.old) × (Leaves s ends.now w.old (meant x)) × (paper.silent (meant x) ≡ false) }
-    ensures value { result ≡ taken_fault s ends.now leasts.now w.old (meant x) }
-    ensures w_after { w.new ≡ taken_left s ends.now leasts.now w.old (meant x) }
+fn with_message(rules: Rules, w: &mut [u64], x: Step) -> Result<(), Refusal>
+    requires { (Holds rules.sizes at_rest w.old) × (Leaves rules.sizes rules.ends.now w.old (meant x)) × (paper.silent (meant x) ≡ false) }
+    ensures value { code result ≡ taken_fault rules.entry.sizes rules.entry.ends.now rules.entry.leasts.now w.old (meant x) }
+    ensures w_after { w.new ≡ taken_left rules.entry.sizes rules.entry.ends.now rules.entry.leasts.now w.old (meant x) }
 {
-    if malformed(s, x) {
-        return 23;
+    if malformed(rules.sizes, x) {
+        return Err(Refusal::Malformed);
     }
-    if !words::in_transit(s, w, x.board, x.mtype, x.source) {
-        return 24;
+    if !words::in_transit(rules.sizes, w, x.board, x.mtype, x.source) {
+        return Err(Refusal::NotInTransit);
     }
-    if not_met(s, leasts, w, x.board, x.rule, x.mtype) {
-        return 25;
+    if not_met(rules, w, x.board, x.rule, x.mtype) {
+        return Err(Refusal::NotMet);
     }
-    words::hear(s, w, x.board, x.mtype, x.source);
-    move_on(s, ends, w, x.board, x.rule);
-    0
+    words::hear(rules.sizes, w, x.board, x.mtype, x.source);
+    move_on(rules, w, x.board, x.rule);
+    Ok(())
 }
 
 // ---- the refusals
@@ -147,19 +154,19 @@ fn at_least(x: usize, limit: usize) -> bool
 }
 
 // 22
-pub fn other_state(ends: &[u8], w: &[u64], p: usize, r: usize) -> bool
-    requires { (length ends.now ≡ kept_room) × (r < 64) × (p < length w.now) }
-    ensures { result ≡ (state w.now p differs kept_from ends.now r) }
+pub fn other_state(rules: Rules, w: &[u64], p: usize, r: usize) -> bool
+    requires { (r < 64) × (p < length w.now) }
+    ensures { result ≡ (state w.now p differs kept_from rules.entry.ends.now r) }
 {
-    w[p] != rules::from(ends, r) as u64
+    w[p] != rules.from(r) as u64
 }
 
 // The same of a number that may be no state.
-pub fn other_than(ends: &[u8], state: u64, r: usize) -> bool
-    requires { (length ends.now ≡ kept_room) × (r < 64) }
-    ensures { (result ≡ (state differs kept_from ends.now r)) × (kept_from ends.now r < 256) }
+pub fn other_than(rules: Rules, state: u64, r: usize) -> bool
+    requires { r < 64 }
+    ensures { (result ≡ (state differs kept_from rules.entry.ends.now r)) × (kept_from rules.entry.ends.now r < 256) }
 {
-    state != rules::from(ends, r) as u64
+    state != rules.from(r) as u64
 }
 
 // 23, of a step with a message
@@ -172,18 +179,15 @@ fn malformed(s: Sizes, x: Step) -> bool
 }
 
 // 25, by the counts after the receipt
-pub fn not_met(s: Sizes, leasts: &[u16], w: &[u64], p: usize, r: usize, m: usize) -> bool
-    requires { (Bounded s) × (length leasts.now ≡ kept_room) × (p < s.correct) × (r < s.rules) × (Holds s in_step w.now) }
-    ensures { result ≡ not (met_with s leasts.now w.now p r m) }
+pub fn not_met(rules: Rules, w: &[u64], p: usize, r: usize, m: usize) -> bool
+    requires { (p < rules.sizes.correct) × (r < rules.sizes.rules) × (Holds rules.sizes in_step w.now) }
+    ensures { result ≡ not (met_with rules.entry.sizes rules.entry.leasts.now w.now p r m) }
 {
-    let types = s.types;
-    let mut i = 0;
-    while i < types {
-        let count = words::count(s, w, p, i) + gain(m, i);
-        if count < rules::least(leasts, r, i) {
+    for i in 0..rules.sizes.types {
+        let count = words::count(rules.sizes, w, p, i) + gain(m, i);
+        if count < rules.least(r, i) {
             return true;
         }
-        i += 1;
     }
     false
 }
@@ -192,18 +196,18 @@ pub fn not_met(s: Sizes, leasts: &[u16], w: &[u64], p: usize, r: usize, m: usize
 fn gain(m: usize, i: usize) -> u64
     ensures { (result ≡ digit (eqb m i)) × (result ≤ 1) }
 {
-    if m == i { 1 } else { 0 }
+    u64::from(m == i)
 }
 
 // ---- the change
 // Board p enters the state that rule r leads to, and sends the rule's type, if any.
-pub fn move_on(s: Sizes, ends: &[u8], w: &mut [u64], p: usize, r: usize)
-    requires { (Bounded s) × (length ends.now ≡ kept_room) × (p < s.correct) × (r < s.rules) × (Holds s in_step w.old) }
-    ensures { w.new ≡ moved_by s ends.now p r w.old }
+pub fn move_on(rules: Rules, w: &mut [u64], p: usize, r: usize)
+    requires { (p < rules.sizes.correct) × (r < rules.sizes.rules) × (Holds rules.sizes in_step w.old) }
+    ensures { w.new ≡ moved_by rules.entry.sizes rules.entry.ends.now p r w.old }
 {
-    words::enter(w, p, rules::to(ends, r) as u64);
-    let m = rules::sends(ends, r);
-    if m < s.types {
-        words::tell(s, w, p, m);
+    words::enter(w, p, rules.to(r) as u64);
+    let m = rules.sends(r);
+    if m < rules.sizes.types {
+        words::tell(rules.sizes, w, p, m);
     }
 }

@@ -2,7 +2,7 @@
 use Rattle.std.specs.Prelude.{Bool, not, ◌&&◌, ◌||◌, List, ℕ, ◌+◌, ◌*◌, ◌^◌, length}
 use Rattle.senders.specs.Tally.{count, some}
 use Rattle.senders.specs.Set.{missing}
-use Rattle.fault.specs.declared.Verdict.{Verdict}
+use Rattle.fault.specs.Fault.{Verdict}
 use Rattle.fault.specs.Tests.{◌below◌, ◌over◌, ◌at_least◌, ◌differs◌, outside}
 use Rattle.fault.specs.Fault.{refused, ◌if◌else◌, ◌▹◌, first_fault}
 use Rattle.fault.specs.Bytes.{trailer_bytes}

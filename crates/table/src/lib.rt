@@ -6,12 +6,13 @@ ghost use Rattle.fault.specs.Bytes.{trailer_bytes};
 ghost use Rattle.senders.specs.Tally.{count};
 ghost use Rattle.senders.specs.Set.{missing};
 ghost use Rattle.fault.specs.Fault.{first_fault};
+ghost use Rattle.fault.specs.Refusals.{code, told};
 ghost use Rattle.table.specs.Table.{states_of, rules_of, types_byte, types_of, factor_of, flags_of, initial_of, sent_of, rule_size, rule_at, from_of, to_of, rule_of};
 ghost use Rattle.table.specs.Refusals.{too_short, counts_outside, counts_off, distances_off, state_off, no_initial, no_state, divisor_off, sends_two, state_fault, rule_fault, records_fault, table_fault};
 ghost use Rattle.table.specs.Refusals as refusals;
 ghost use Rattle.table.specs.Facts.{Sized, RuleEnds};
 
-use fault::Verdict;
+use fault::refusals::{Refusal, Refused, lowest};
 
 // The most that the counts but T may be; the least is 1.
 pub const MOST_STATES: usize = 16;
@@ -29,32 +30,29 @@ pub const MOST_BYTES: usize = STATE_BYTES * MOST_STATES
     + fault::TRAILER_BYTES;
 
 // The table's first refusal, for every byte string.
-pub fn table_fault(s: &[u8]) -> Verdict
-    ensures { result ≡ table_fault s.now }
+pub fn table_fault(s: &[u8]) -> Result<(), Refused>
+    ensures { told result ≡ table_fault s.now }
 {
     if too_short(s) {
-        return fault::refusal(1, 0);
+        return Err(Refusal::TableShort.at(0));
     }
     if counts_off(s) {
-        return fault::refusal(2, 0);
+        return Err(Refusal::CountsOutside.at(0));
     }
     if distances_off(s) {
-        return fault::refusal(3, 0);
+        return Err(Refusal::DistancesOff.at(0));
     }
     records_fault(s)
 }
 
 // The first refusal of the records, once the trailer is read.
-fn records_fault(s: &[u8]) -> Verdict
+fn records_fault(s: &[u8]) -> Result<(), Refused>
     requires { Sized s.now }
-    ensures { result ≡ records_fault s.now }
+    ensures { told result ≡ records_fault s.now }
 {
-    let v = states_fault(s);
-    if v.number != 0 {
-        return v;
-    }
+    states_fault(s)?;
     if no_initial(s) {
-        return fault::refusal(5, 0);
+        return Err(Refusal::NoInitial.at(0));
     }
     rules_fault(s)
 }
@@ -165,34 +163,23 @@ fn state_off(s: &[u8], i: usize) -> bool
     (3 < flags(s, i)) | ((1usize << types(s)) <= sent) | (initial(s, i) & (0 < sent))
 }
 
-fn state_fault(s: &[u8], i: usize) -> usize
+fn state_fault(s: &[u8], i: usize) -> Result<(), Refusal>
     requires { (Sized s.now) × (i < states_of s.now) }
-    ensures { result ≡ state_fault s.now i }
+    ensures { code result ≡ state_fault s.now i }
 {
-    if state_off(s, i) { 4 } else { 0 }
+    if state_off(s, i) {
+        Err(Refusal::StateOff)
+    } else {
+        Ok(())
+    }
 }
 
 // The lowest state at fault.
-fn states_fault(s: &[u8]) -> Verdict
+fn states_fault(s: &[u8]) -> Result<(), Refused>
     requires { Sized s.now }
-    ensures { result ≡ first_fault (state_fault s.now) (states_of s.now) }
+    ensures { told result ≡ first_fault (state_fault s.now) (states_of s.now) }
 {
-    let n = states(s);
-    let mut i = 0;
-    while i < n {
-        let k = state_fault(s, i);
-        if k != 0 {
-            return Verdict {
-                number: k,
-                place: i,
-            };
-        }
-        i += 1;
-    }
-    Verdict {
-        number: 0,
-        place: 0,
-    }
+    lowest(states(s), |i| state_fault(s, i))
 }
 
 // 5
@@ -200,15 +187,7 @@ fn no_initial(s: &[u8]) -> bool
     requires { Sized s.now }
     ensures { result ≡ no_initial s.now }
 {
-    let n = states(s);
-    let mut i = 0;
-    while i < n {
-        if initial(s, i) {
-            return false;
-        }
-        i += 1;
-    }
-    true
+    !(0..states(s)).any(|i| initial(s, i))
 }
 
 // ---- the rules
@@ -296,44 +275,29 @@ fn sends_two(s: &[u8], k: usize) -> bool
     1 < unsent(s, to(s, k), from(s, k))
 }
 
-fn rule_fault(s: &[u8], k: usize) -> usize
+fn rule_fault(s: &[u8], k: usize) -> Result<(), Refusal>
     requires { (Sized s.now) × (k < rules_of s.now) }
-    ensures { result ≡ rule_fault s.now k }
+    ensures { code result ≡ rule_fault s.now k }
 {
     if no_state(s, k) {
-        return 6;
+        return Err(Refusal::NoState);
     }
     if divisor_off(s, k) {
-        return 9;
+        return Err(Refusal::DivisorOff);
     }
     if forgets(s, k) {
-        return 7;
+        return Err(Refusal::Forgets);
     }
     if sends_two(s, k) {
-        return 8;
+        return Err(Refusal::SendsTwo);
     }
-    0
+    Ok(())
 }
 
 // The lowest rule at fault.
-fn rules_fault(s: &[u8]) -> Verdict
+fn rules_fault(s: &[u8]) -> Result<(), Refused>
     requires { Sized s.now }
-    ensures { result ≡ first_fault (rule_fault s.now) (rules_of s.now) }
+    ensures { told result ≡ first_fault (rule_fault s.now) (rules_of s.now) }
 {
-    let n = rules(s);
-    let mut i = 0;
-    while i < n {
-        let k = rule_fault(s, i);
-        if k != 0 {
-            return Verdict {
-                number: k,
-                place: i,
-            };
-        }
-        i += 1;
-    }
-    Verdict {
-        number: 0,
-        place: 0,
-    }
+    lowest(rules(s), |k| rule_fault(s, k))
 }

@@ -1,14 +1,14 @@
 -- The size of a signed number, `mag`, after a sum and after a product with a natural number: each a bound in ℕ, from which `omega` goes on.
 use mathlib.Core.Path.{◌≡◌, refl, ap}
-use mathlib.Core.Bool.{Bool, true, false}
-use Prim.Native.Nat.{ℕ, zero, suc, ◌+◌, ◌-◌, ◌*◌, ◌%◌, ◌^◌, ◌≤◌, ◌<◌}
+use mathlib.Core.Bool.{Bool, true, false, cond}
+use Prim.Native.Nat.{ℕ, zero, suc, ◌+◌, ◌-◌, ◌*◌, ◌^◌, ◌≤◌, ◌<◌}
 use native.Mathlib.Nat.{mul-le-mul, le_trans}
 use native.Mathlib.Decide.{dec_lt}
 use native.Mathlib.Omega.{arith}
 use lib.Dec.{ltb}
-use lib.IntN.{ℤ, pos, negsuc, neg_ℤ, sub_ℕ, ◌+ℤ◌, ◌-ℤ◌, ◌*ℤ◌}
+use lib.IntN.{ℤ, pos, negsuc, neg_ℤ, sub_ℕ, ◌+ℤ◌, ◌*ℤ◌}
 use lib.Signed.{mag}
-use mir.Syntax.{w64}
+use mir.Syntax.{w8, w64}
 use mir.Val.{to_z, of_z}
 use mir.Facts.{to_z-of_z}
 use borrow.Author.Tests.{ltb-true, ltb-false, lt-ltb, le-ltb}
@@ -42,14 +42,10 @@ pub mag_mul : (z : ℤ) (n : ℕ) (A N : ℕ) → mag z < A → n ≤ N → mag 
 mag_mul (pos a) n A N ha hn = mul-le-mul (omega arith) hn
 mag_mul (negsuc a) n A N ha hn = le_trans (mag_neg (suc a * n)) (mul-le-mul ha hn)
 
--- a byte moved up by 128, cut to eight bits and moved down again
-pub turned-byte : (x : ℕ) → x < 256 → pos ((x + 128) % 256) -ℤ pos 128 ≡ signed_byte x
+-- a byte read as two's complement
+pub signed-byte : (x : ℕ) → to_z w8 x ≡ signed_byte x
 unfolding signed_byte
-turned-byte x h = go (dec_lt x 128)
-  where
-    go : Dec (x < 128) → pos ((x + 128) % 256) -ℤ pos 128 ≡ signed_byte x
-    go (yes l) = let e : (x + 128) % 256 ≡ x + 128 = omega arith in rw (e, le-ltb (x + 128) 128 (omega arith), lt-ltb x 128 l) (ap pos (omega arith))
-    go (no l) = let e : (x + 128) % 256 ≡ x - 128 = omega arith in rw (e, lt-ltb (x - 128) 128 (omega arith), le-ltb x 128 (omega arith)) (ap negsuc (omega arith))
+signed-byte x = let e : 256 - suc x ≡ 255 - x = omega arith in ap (λ (y : ℕ). cond (ltb x 128) (pos x) (negsuc y)) e
 
 pub byte_small : (x : ℕ) → x < 256 → mag (signed_byte x) < 128
 unfolding signed_byte

@@ -43,7 +43,7 @@ fn scaled(x: u8, n: u64) -> i64
 fn signed(x: u8) -> i64
     ensures { (result ≡ signed_byte x) × (mag result < 128) }
 {
-    ((x as u64 + 128) % 256) as i64 - 128
+    i64::from(x.cast_signed())
 }
 
 // The sum of two small numbers.
@@ -59,7 +59,7 @@ fn at_least_zero(z: i64) -> u16
     requires { mag z ≤ 20000 }
     ensures { (result ≡ least_of z) × (result ≤ 20000) }
 {
-    if z < 0 { 0 } else { z as u16 }
+    z.max(0) as u16
 }
 
 // A small number divided by e, rounded up.
@@ -67,6 +67,5 @@ fn divided(x: u16, e: u8) -> u16
     requires { (x ≤ 20000) × (1 ≤ e) }
     ensures { result ≡ (x + (e - 1)) / e }
 {
-    let e = e as u16;
-    (x + (e - 1)) / e
+    x.div_ceil(u16::from(e))
 }

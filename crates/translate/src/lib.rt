@@ -4,21 +4,23 @@
 ghost use Rattle.std.specs.Prelude.{◌≡◌, ◌&&◌, map, suc, ◌+◌, ◌-◌, ◌*◌, ◌≤◌, ◌<◌, eqb, length, set};
 ghost use Rattle.senders.specs.Tally.{least};
 ghost use Rattle.fault.specs.Bytes.{most_steps};
+ghost use Rattle.fault.specs.Refusals.{answer_of};
 ghost use Rattle.bundle.specs.Bundle.{steps_of, most_form, most_level};
 ghost use Rattle.paper.specs.Paper.{passing, column};
 ghost use Rattle.paper.specs.Step.{heard, stepped};
 ghost use Rattle.agree.specs.Translation.{tag_of, tag_by, low_sender, coarser};
 ghost use Rattle.schedule.specs.Records.{meant, record_at, steps_in, bytes_of, Records};
-ghost use Rattle.words.specs.Words.{room_of};
-ghost use Rattle.words.specs.Facts.{at_rest, in_step, most_words, Bounded, Holds, At, Grown};
-ghost use Rattle.rules.specs.Kept.{kept_room, ByEnds, ByDesign};
+ghost use Rattle.words.specs.Facts.{at_rest, in_step, Bounded, Holds, At, Grown};
+ghost use Rattle.rules.specs.Kept.{ByEnds};
 ghost use Rattle.step.specs.Step.{sized, Formed};
-ghost use Rattle.engine.specs.Entry.{start_in, ran_answer};
+ghost use Rattle.engine.specs.Entry.{start_in};
 ghost use Rattle.engine.specs.Open.{Parts};
-ghost use Rattle.translate.specs.Facts.{at_level, low_in, ran_by, Fair, Runs, MovesTo, RefinesTo, WritesTo, Answers, RunsLow, LowersTo, Acceptable};
+ghost use Rattle.translate.specs.Facts.{at_level, low_in, Fair, Runs, MovesTo, RefinesTo, WritesTo, Answers, RunsLow, LowersTo, Acceptable};
 ghost use Rattle.translate.specs.Entry.{translate_to_answer, translate_to_bytes, usual, translate_answer, translate_bytes};
 
 use fault::Answer;
+use fault::refusals::{Refusal, Refused};
+use rules::{Room, Rules};
 use schedule::Step;
 use words::Sizes;
 
@@ -34,7 +36,7 @@ pub fn translate<'a>(bundle: &'a [u8], standing: &'a [u8], out: &mut [u8]) -> An
 fn usual_form(bundle: &[u8]) -> u64
     ensures { result ≡ usual bundle.now }
 {
-    if bundle.len() < 8 {
+    if bundle.len() < fault::TRAILER_BYTES {
         return 1;
     }
     if bundle::form(bundle) == 1 { 0 } else { 1 }
@@ -45,101 +47,54 @@ pub fn translate_to<'a>(bundle: &'a [u8], standing: &'a [u8], form: u64, out: &m
     ensures value { result ≡ translate_to_answer bundle.now standing.now form (length out.old) }
     ensures out_after { out.new ≡ translate_to_bytes bundle.now standing.now form out.old }
 {
-    let mut ends = [0u8; rules::ROOM];
-    let mut leasts = [0u16; rules::ROOM];
-    let mut words = [0u64; words::MOST];
-    translate_with(
-        bundle,
-        standing,
-        form,
-        &mut ends,
-        &mut leasts,
-        &mut words,
-        out,
-    )
+    Answer::from(translated(bundle, standing, form, out))
 }
 
-// The same, with room for the rules and for a configuration.
-fn translate_with<'a>(
+// How many bytes are written, or what is refused.
+fn translated<'a>(
     bundle: &'a [u8],
     standing: &'a [u8],
     form: u64,
-    ends: &mut [u8],
-    leasts: &mut [u16],
-    words: &mut [u64],
     out: &mut [u8],
-) -> Answer
-    requires { (length ends.old ≡ kept_room) × (length leasts.old ≡ kept_room) × (length words.old ≡ most_words) }
-    ensures value { result ≡ translate_to_answer bundle.now standing.now form (length out.old) }
+) -> Result<usize, Refused>
+    ensures value { answer_of result ≡ translate_to_answer bundle.now standing.now form (length out.old) }
     ensures out_after { out.new ≡ translate_to_bytes bundle.now standing.now form out.old }
 {
-    let o = engine::open(bundle, standing, ends, leasts);
-    if o.number != 0 {
-        return fault::answered(o.number, o.place, 0);
-    }
+    let mut room = Room::none();
+    engine::open(bundle, standing, &mut room)?;
+    let rules = room.rules();
     if (form == bundle::form(bundle) as u64) | ((bundle::MOST_FORM as u64) < form) {
-        return fault::answered(31, 0, 0);
+        return Err(Refusal::OtherForm.at(0));
     }
     let need = bundle.len();
     if out.len() < need {
-        return fault::answered(30, 0, 0);
+        return Err(Refusal::LentShort.at(0));
     }
-    let s = o.sizes;
-    translate_in(
-        bundle,
-        s,
-        form as usize,
-        ends,
-        leasts,
-        words,
-        &mut out[..need],
-    )
+    translate_in(bundle, rules, form as usize, &mut out[..need])
 }
 
 // The same for a bundle that is ready, into as many bytes as it has. Its own form decides, before a byte is written.
-fn translate_in(
-    bundle: &[u8],
-    s: Sizes,
-    form: usize,
-    ends: &[u8],
-    leasts: &[u16],
-    words: &mut [u64],
-    out: &mut [u8],
-) -> Answer
-    requires { (Parts s bundle.now) × (Bounded s) × (Fair s ends.now leasts.now bundle.now) × (form ≤ most_form) × (length words.old ≡ most_words) × (length out.old ≡ length bundle.now) }
-    ensures { Answers s ends.now leasts.now bundle.now form out.old result out.new }
+fn translate_in(bundle: &[u8], rules: Rules, form: usize, out: &mut [u8]) -> Result<usize, Refused>
+    requires { (Parts rules.sizes bundle.now) × (Fair rules.sizes rules.ends.now rules.leasts.now bundle.now) × (form ≤ most_form) × (length out.old ≡ length bundle.now) }
+    ensures { Answers rules.entry.sizes rules.entry.ends.now rules.entry.leasts.now bundle.now form out.old (answer_of result) out.new }
 {
-    let a = run_own(bundle, s, ends, leasts, words);
-    if a.refusal != 0 {
-        return Answer {
-            refusal: a.refusal,
-            place: a.place,
-            count: 0,
-        };
-    }
-    write(bundle, s, form, ends, words, out);
-    fault::answered(0, 0, bundle.len())
-}
-
-// The bundle's run in its own form.
-fn run_own(bundle: &[u8], s: Sizes, ends: &[u8], leasts: &[u16], words: &mut [u64]) -> Answer
-    requires { (Parts s bundle.now) × (Bounded s) × (length ends.now ≡ kept_room) × (length leasts.now ≡ kept_room) × (length words.old ≡ most_words) }
-    ensures by_design { ByDesign s ends.now leasts.now (λ d. result ≡ ran_answer (ran_by s bundle.now d)) }
-    ensures words_len { length words.new ≡ most_words }
-{
-    let need = words::room(s);
-    engine::run_in(bundle, s, ends, leasts, &mut words[..need])
+    let mut words = [0u64; words::MOST];
+    let need = words::room(rules.sizes);
+    engine::run_in(bundle, rules, &mut words[..need])?;
+    write(bundle, rules, form, &mut words, out);
+    Ok(bundle.len())
 }
 
 // The bundle that runs, with its steps in the form that is asked for, and that form as its last byte.
-fn write(bundle: &[u8], s: Sizes, form: usize, ends: &[u8], words: &mut [u64], out: &mut [u8])
-    requires { (Parts s bundle.now) × (Bounded s) × (Runs s ends.now bundle.now) × (form ≤ most_form) × (length words.old ≡ most_words) × (length out.old ≡ length bundle.now) }
-    ensures { WritesTo s ends.now bundle.now form out.new }
+// Stays: the words that it ran in are lent on down to `write_sources`; a second array would be 4,648 bytes more of stack.
+fn write(bundle: &[u8], rules: Rules, form: usize, words: &mut [u64; words::MOST], out: &mut [u8])
+    requires { (Parts rules.sizes bundle.now) × (Runs rules.sizes rules.ends.now bundle.now) × (form ≤ most_form) × (length out.old ≡ length bundle.now) }
+    ensures { WritesTo rules.entry.sizes rules.entry.ends.now bundle.now form out.new }
 {
-    fault::copy(bundle, out);
+    out.copy_from_slice(bundle);
     let at = bundle::steps_at(bundle);
-    let end = bundle.len() - 8;
-    write_steps(bundle, s, form, ends, words, &mut out[at..end]);
+    let end = bundle.len() - fault::TRAILER_BYTES;
+    write_steps(bundle, rules, form, words, &mut out[at..end]);
     let last = bundle.len() - 1;
     out[last] = form as u8;
 }
@@ -147,32 +102,30 @@ fn write(bundle: &[u8], s: Sizes, form: usize, ends: &[u8], words: &mut [u64], o
 // The bundle's steps at the level that is asked for, in place of its own.
 fn write_steps(
     bundle: &[u8],
-    s: Sizes,
+    rules: Rules,
     level: usize,
-    ends: &[u8],
-    words: &mut [u64],
+    words: &mut [u64; words::MOST],
     steps: &mut [u8],
 )
-    requires { (Parts s bundle.now) × (Bounded s) × (Runs s ends.now bundle.now) × (level ≤ most_level) × (length words.old ≡ most_words) × (steps.old ≡ steps_of bundle.now) }
-    ensures { MovesTo s ends.now bundle.now level steps.new }
+    requires { (Parts rules.sizes bundle.now) × (Runs rules.sizes rules.ends.now bundle.now) × (level ≤ most_level) × (steps.old ≡ steps_of bundle.now) }
+    ensures { MovesTo rules.entry.sizes rules.entry.ends.now bundle.now level steps.new }
 {
-    if level < s.level {
-        refine(bundle, s, level, ends, words, steps);
-        return;
+    if level < rules.sizes.level {
+        refine(bundle, rules, level, words, steps);
+    } else {
+        coarsen(rules.sizes.level, level, rules.sizes.correct, steps);
     }
-    coarsen(s.level, level, s.correct, steps);
 }
 
 // ---- to a coarser level
 // From level k, one level after the other, up to the one that is asked for.
+// Stays: the level goes up at each turn, so that a struct of it and c would be made anew each time, no plainer than two numbers.
 fn coarsen(k: usize, level: usize, c: usize, steps: &mut [u8])
     requires { (k ≤ level) × (level ≤ most_level) × (Records steps.old) }
     ensures { steps.new ≡ bytes_of (coarser (level - k) k c (steps_in steps.old)) }
 {
-    let mut j = k;
-    while j < level {
+    for j in k..level {
         write_tags(j, c, steps);
-        j += 1;
     }
 }
 
@@ -182,10 +135,8 @@ fn write_tags(j: usize, c: usize, steps: &mut [u8])
     ensures { steps.new ≡ bytes_of (map (tag_by j c) (steps_in steps.old)) }
 {
     let total = steps.len() / 4;
-    let mut i = 0;
-    while i < total {
+    for i in 0..total {
         tag_at(j, c, steps, i);
-        i += 1;
     }
 }
 
@@ -199,6 +150,7 @@ fn tag_at(j: usize, c: usize, steps: &mut [u8], i: usize)
 }
 
 // The source of a step one level on: its tag, or 255 where there is no message.
+// Stays: a tag is written as the source of the record, where it is a number, as senders are.
 fn tag(j: usize, c: usize, x: Step) -> usize
     requires { x.source < 256 }
     ensures { (result ≡ (tag_by j c (meant x)).source) × (result < 256) }
@@ -213,15 +165,24 @@ fn tag(j: usize, c: usize, x: Step) -> usize
 }
 
 // ---- to a finer level
-// From the bundle's own level, one level after the other, down to the one that is asked for.
-fn refine(bundle: &[u8], s: Sizes, level: usize, ends: &[u8], words: &mut [u64], steps: &mut [u8])
-    requires { (Parts s bundle.now) × (Bounded s) × (Runs s ends.now bundle.now) × (level ≤ s.level) × (length words.old ≡ most_words) × (steps.old ≡ steps_of bundle.now) }
-    ensures { RefinesTo s ends.now bundle.now level steps.new }
+// From the bundle's own level, one level after the other, down to the one that is asked for: the same rules, at each level's sizes.
+fn refine(
+    bundle: &[u8],
+    rules: Rules,
+    level: usize,
+    words: &mut [u64; words::MOST],
+    steps: &mut [u8],
+)
+    requires { (Parts rules.sizes bundle.now) × (Runs rules.sizes rules.ends.now bundle.now) × (level ≤ rules.sizes.level) × (steps.old ≡ steps_of bundle.now) }
+    ensures { RefinesTo rules.entry.sizes rules.entry.ends.now bundle.now level steps.new }
 {
-    let mut j = s.level;
-    while level < j {
-        j -= 1;
-        write_sources(bundle, at_level(s, j), ends, words, steps);
+    for j in (level..rules.sizes.level).rev() {
+        let same_rules = Rules {
+            sizes: at_level(rules.sizes, j),
+            ends: rules.ends,
+            leasts: rules.leasts,
+        };
+        write_sources(bundle, same_rules, words, steps);
     }
 }
 
@@ -233,62 +194,48 @@ fn at_level(s: Sizes, k: usize) -> Sizes
     let wide = words::level::wide(k);
     Sizes {
         level: k,
-        correct: s.correct,
-        faulty: s.faulty,
-        types: s.types,
-        rules: s.rules,
         wide,
         row: s.types * wide,
-        tolerated: s.tolerated,
+        ..s
     }
 }
 
 // Each tag becomes the lowest of its sources that is in transit, along the run at their level from the bundle's starts.
-fn write_sources(bundle: &[u8], s: Sizes, ends: &[u8], words: &mut [u64], steps: &mut [u8])
-    requires { (Parts s bundle.now) × (Bounded s) × (length words.old ≡ most_words) × (Records steps.old) × (RunsLow s ends.now (start_in s bundle.now) steps.old) }
-    ensures lowers_to { LowersTo s ends.now (start_in s bundle.now) steps.old steps.new }
-    ensures words_len { length words.new ≡ most_words }
+fn write_sources(bundle: &[u8], rules: Rules, words: &mut [u64; words::MOST], steps: &mut [u8])
+    requires { (Parts rules.sizes bundle.now) × (Records steps.old) × (RunsLow rules.sizes rules.ends.now (start_in rules.sizes bundle.now) steps.old) }
+    ensures { LowersTo rules.entry.sizes rules.entry.ends.now (start_in rules.entry.sizes bundle.now) steps.old steps.new }
 {
-    let need = words::room(s);
-    write_from_start(bundle, s, ends, &mut words[..need], steps);
-}
-
-// The same, in words of the right number.
-fn write_from_start(bundle: &[u8], s: Sizes, ends: &[u8], w: &mut [u64], steps: &mut [u8])
-    requires { (Parts s bundle.now) × (Bounded s) × (length w.old ≡ room_of s) × (Records steps.old) × (RunsLow s ends.now (start_in s bundle.now) steps.old) }
-    ensures { LowersTo s ends.now (start_in s bundle.now) steps.old steps.new }
-{
-    engine::begin(bundle::starts(bundle), s, w);
-    write_along(s, ends, w, steps);
+    let need = words::room(rules.sizes);
+    let w = &mut words[..need];
+    engine::begin(bundle::starts(bundle), rules.sizes, w);
+    write_along(rules, w, steps);
 }
 
 // The same, along the run from the words.
-fn write_along(s: Sizes, ends: &[u8], w: &mut [u64], steps: &mut [u8])
-    requires { (Bounded s) × (Holds s 256 w.old) × (Records steps.old) × (RunsLow s ends.now w.old steps.old) }
-    ensures { LowersTo s ends.now w.old steps.old steps.new }
+fn write_along(rules: Rules, w: &mut [u64], steps: &mut [u8])
+    requires { (Holds rules.sizes 256 w.old) × (Records steps.old) × (RunsLow rules.sizes rules.ends.now w.old steps.old) }
+    ensures { LowersTo rules.entry.sizes rules.entry.ends.now w.old steps.old steps.new }
 {
     let total = steps.len() / 4;
-    let mut i = 0;
-    while i < total {
-        source_at(s, ends, w, steps, i);
-        i += 1;
+    for i in 0..total {
+        source_at(rules, w, steps, i);
     }
 }
 
 // The tag of record i becomes its source, and the step is taken. A stop has no message, so that its record stays.
-fn source_at(s: Sizes, ends: &[u8], w: &mut [u64], steps: &mut [u8], i: usize)
-    requires { (Bounded s) × (length ends.now ≡ kept_room) × (Holds s at_rest w.old) × (i < most_steps) × (i * 4 + 3 < length steps.old) × (Acceptable s (low_in s w.old (record_at steps.old i))) }
-    ensures by_ends { ByEnds s ends.now (λ d. w.new ≡ stepped s.level d w.old (low_in s w.old (record_at steps.old i))) }
-    ensures grown { Grown s w.old w.new }
-    ensures steps_after { steps.new ≡ set steps.old (i * 4 + 3) (low_in s w.old (record_at steps.old i)).source }
+fn source_at(rules: Rules, w: &mut [u64], steps: &mut [u8], i: usize)
+    requires { (Holds rules.sizes at_rest w.old) × (i < most_steps) × (i * 4 + 3 < length steps.old) × (Acceptable rules.sizes (low_in rules.sizes w.old (record_at steps.old i))) }
+    ensures by_ends { ByEnds rules.entry.sizes rules.entry.ends.now (λ d. w.new ≡ stepped rules.entry.sizes.level d w.old (low_in rules.entry.sizes w.old (record_at steps.old i))) }
+    ensures grown { Grown rules.entry.sizes w.old w.new }
+    ensures steps_after { steps.new ≡ set steps.old (i * 4 + 3) (low_in rules.entry.sizes w.old (record_at steps.old i)).source }
 {
     let x = schedule::step_at(steps, i);
     if x.rule == step::STOP {
-        words::stop(s, w, x.board);
+        words::stop(rules.sizes, w, x.board);
         return;
     }
-    hear_lowest(s, w, steps, i, x);
-    step::move_on(s, ends, w, x.board, x.rule);
+    hear_lowest(rules.sizes, w, steps, i, x);
+    step::move_on(rules, w, x.board, x.rule);
 }
 
 // A message of the step's tag is received from its lowest sender in transit, whom record i then names.

@@ -13,6 +13,10 @@ pub record Bounded (s : Sizes) : Type 0 where
   pub wide : s.wide ≡ wide s.level
   pub row : s.row ≡ s.types * s.wide
 
+-- what the level's functions count on
+abbrev pub Leveled : Sizes → Type 0
+Leveled s = (s.correct + s.faulty ≤ 64) × (s.wide ≡ wide s.level)
+
 -- no word of a configuration that counts is over the first number after a schedule
 abbrev pub at_end : ℕ
 at_end = 10000

@@ -4,8 +4,9 @@ use Rattle.senders.specs.Set.{mem, correct_count, faulty_count}
 use Rattle.fault.specs.Fault.{◌if◌else◌}
 use Rattle.paper.specs.Paper.{Interp, column}
 use Rattle.paper.specs.Words.{size, state, cell, sent, stopped}
-use Rattle.paper.specs.Form.{wide, coll, shown}
+use Rattle.paper.specs.Form.{wide, two, coll, shown}
 use Rattle.words.specs.declared.Sizes.{Sizes}
+use Rattle.words.specs.declared.level.Cell.{Cell}
 
 abbrev pub column_in : Sizes → Interp
 column_in s = column s.level s.correct s.faulty
@@ -15,6 +16,10 @@ got_in s w p m = coll s.level s.correct s.faulty (cell s.correct s.types (wide s
 
 abbrev pub out_in : (s : Sizes) → List ℕ → ℕ → (column_in s).Coll
 out_in s w m = shown s.level s.correct s.faulty (sent s.correct s.types (wide s.level) w m)
+
+-- the same, of a cell by its first and last word
+abbrev pub held_in : (s : Sizes) → Cell → (column_in s).Coll
+held_in s x = coll s.level s.correct s.faulty (two x.first x.last)
 
 -- the boards that are stopped
 abbrev pub stopped_of : Sizes → List ℕ → ℕ

@@ -2,11 +2,13 @@
 ghost use Rattle.std.specs.Prelude.{◌≡◌, ◌+◌, ◌≤◌, ◌<◌, eqb, length, get_or, set};
 ghost use Rattle.senders.specs.Tally.{least};
 ghost use Rattle.fault.specs.Fault.{◌if◌else◌};
-ghost use Rattle.paper.specs.Paper.{passing, column};
-ghost use Rattle.paper.specs.Form.{two, coll, shown};
+ghost use Rattle.paper.specs.Paper.{column};
+ghost use Rattle.paper.specs.Form.{shown};
 ghost use Rattle.paper.specs.Form as forms;
-ghost use Rattle.words.specs.Facts.{in_step};
-ghost use Rattle.words.specs.Words.{from_correct, from_faulty};
+ghost use Rattle.words.specs.Facts.{in_step, Leveled};
+ghost use Rattle.words.specs.Words.{column_in, held_in, from_correct, from_faulty};
+
+use crate::Sizes;
 
 // How many words a cell has.
 pub fn wide(level: usize) -> usize
@@ -38,7 +40,7 @@ pub fn receive(level: usize, w: &mut [u64], i: usize, q: usize)
         w[i] = senders::with(w[i], q as u64);
         return;
     }
-    w[i + q] = w[i + q] + 1;
+    w[i + q] += 1;
 }
 
 // ---- the levels that count differ in how many words a cell has; with that number at hand they go one way
@@ -50,88 +52,102 @@ pub fn sources(level: usize, wide: usize, c: usize, f: usize) -> usize
     if level == 0 { c + f } else { wide }
 }
 
-// How many messages the first and the last word of a cell hold; where they are the same, it counts once.
-pub fn card(level: usize, wide: usize, c: usize, f: usize, v: u64, w: u64) -> u64
-    requires f_bound { (c + f ≤ 64) × (wide ≡ forms.wide level) }
-    requires v_le_in_step { (level ≡ 0 → ⊥) → (v ≤ in_step) × (w ≤ in_step) }
-    ensures { (result ≡ (column level c f).card (coll level c f (two v w))) × (result ≤ 2000000) }
-{
-    if level == 0 {
-        senders::correct_count(v, (c + f) as u64)
-    } else {
-        v + (wide - 1) as u64 * w
-    }
+// The first and the last word of a cell, which are the same where it has one.
+#[derive(Clone, Copy)]
+pub struct Cell {
+    pub first: u64,
+    pub last: u64,
 }
 
-// How many of these messages are from correct boards; where the cell has one count, how many there are.
-pub fn from_correct(level: usize, c: usize, f: usize, v: u64, w: u64) -> u64
-    requires { c + f ≤ 64 }
-    ensures { result ≡ from_correct level c f (coll level c f (two v w)) }
-{
-    if level == 0 {
-        senders::correct_count(v, c as u64)
-    } else {
-        v
+impl Cell {
+    // How many messages it holds; where the two words are the same, it counts once.
+    pub fn card(self, s: Sizes) -> u64
+        requires leveled { Leveled s }
+        requires small { (s.level ≡ 0 → ⊥) → (self.first ≤ in_step) × (self.last ≤ in_step) }
+        ensures { (result ≡ (column_in s).card (held_in s self)) × (result ≤ 2000000) }
+    {
+        if s.level == 0 {
+            senders::correct_count(self.first, (s.correct + s.faulty) as u64)
+        } else {
+            self.first + (s.wide - 1) as u64 * self.last
+        }
     }
-}
 
-// And how many from faulty ones, where that is told.
-pub fn from_faulty(level: usize, c: usize, f: usize, v: u64, w: u64) -> u64
-    requires { c + f ≤ 64 }
-    ensures { result ≡ from_faulty level c f (coll level c f (two v w)) }
-{
-    if level == 0 {
-        return senders::faulty_count(v, c as u64, f as u64);
+    // How many of these messages are from correct boards; where the cell has one count, how many there are.
+    pub fn from_correct(self, s: Sizes) -> u64
+        requires { s.correct + s.faulty ≤ 64 }
+        ensures { result ≡ from_correct s.level s.correct s.faulty (held_in s self) }
+    {
+        if s.level == 0 {
+            senders::correct_count(self.first, s.correct as u64)
+        } else {
+            self.first
+        }
     }
-    if level == 1 { w } else { 0 }
-}
 
-// Is a message from q in transit, by the first and the last word of the receiver's cell and the sent word?
-pub fn in_transit(
-    level: usize,
-    wide: usize,
-    c: usize,
-    f: usize,
-    q: usize,
-    v: u64,
-    w: u64,
-    out: u64,
-) -> bool
-    requires q_bound { (q < 64) × (c + f ≤ 64) × (wide ≡ forms.wide level) }
-    requires out_le_in_step { (level ≡ 0 → ⊥) → out ≤ in_step }
-    ensures { result ≡ (column level c f).in_transit q (coll level c f (two v w)) (shown level c f out) }
-{
-    if level == 0 {
-        set_in_transit(c, f, q, v, out)
-    } else {
-        count_in_transit(level, wide, c, f, q, v, w, out)
+    // And how many from faulty ones, where that is told.
+    pub fn from_faulty(self, s: Sizes) -> u64
+        requires { s.correct + s.faulty ≤ 64 }
+        ensures { result ≡ from_faulty s.level s.correct s.faulty (held_in s self) }
+    {
+        if s.level == 0 {
+            return senders::faulty_count(self.first, s.correct as u64, s.faulty as u64);
+        }
+        if s.level == 1 { self.last } else { 0 }
     }
-}
 
-fn set_in_transit(c: usize, f: usize, q: usize, got: u64, out: u64) -> bool
-    requires { (q < 64) × (c ≤ 64) }
-    ensures { result ≡ (passing c f).in_transit q got out }
-{
-    senders::in_transit(out, got, c as u64, q as u64)
-}
-
-fn count_in_transit(
-    level: usize,
-    wide: usize,
-    c: usize,
-    f: usize,
-    q: usize,
-    v: u64,
-    w: u64,
-    out: u64,
-) -> bool
-    requires { (f ≤ 64) × (wide ≡ forms.wide level) × (level ≡ 0 → ⊥) × (out ≤ in_step) }
-    ensures { result ≡ (column level c f).in_transit q (coll level c f (two v w)) (shown level c f out) }
-{
-    if q == 0 {
-        return v < limit(wide, f, out);
+    // Is a message from q in transit to the board that has this cell, where this was sent?
+    pub fn in_transit(self, s: Sizes, q: usize, out: u64) -> bool
+        requires leveled { Leveled s }
+        requires q_bound { q < 64 }
+        requires small { (s.level ≡ 0 → ⊥) → out ≤ in_step }
+        ensures { result ≡ (column_in s).in_transit q (held_in s self) (shown s.level s.correct s.faulty out) }
+    {
+        if s.level == 0 {
+            senders::in_transit(out, self.first, s.correct as u64, q as u64)
+        } else {
+            self.count_in_transit(s, q, out)
+        }
     }
-    (q < wide) & (w < f as u64)
+
+    fn count_in_transit(self, s: Sizes, q: usize, out: u64) -> bool
+        requires { (s.faulty ≤ 64) × (s.wide ≡ forms.wide s.level) × (s.level ≡ 0 → ⊥) × (out ≤ in_step) }
+        ensures { result ≡ (column_in s).in_transit q (held_in s self) (shown s.level s.correct s.faulty out) }
+    {
+        if q == 0 {
+            return self.first < limit(s.wide, s.faulty, out);
+        }
+        (q < s.wide) & (self.last < s.faulty as u64)
+    }
+
+    // The lowest source of a message in transit; as many as there are sources where there is none.
+    // Stays: the definition, `least`, and the theorems about it have that number for none, and callers compare with it once.
+    pub fn first_source(self, s: Sizes, out: u64) -> usize
+        requires leveled { Leveled s }
+        requires small { (s.level ≡ 0 → ⊥) → out ≤ in_step }
+        ensures { result ≡ least (column_in s).sources (λ q. (column_in s).in_transit q (held_in s self) (shown s.level s.correct s.faulty out)) }
+    {
+        if s.level == 0 {
+            let n = s.correct + s.faulty;
+            senders::lowest_in_transit(out, self.first, s.correct as u64, n as u64) as usize
+        } else {
+            self.first_count(s, out)
+        }
+    }
+
+    // Of one count, 1 is as many as there are sources: the second test then makes no difference.
+    fn first_count(self, s: Sizes, out: u64) -> usize
+        requires { (s.faulty ≤ 64) × (s.wide ≡ forms.wide s.level) × (s.level ≡ 0 → ⊥) × (out ≤ in_step) }
+        ensures { result ≡ least (column_in s).sources (λ q. (column_in s).in_transit q (held_in s self) (shown s.level s.correct s.faulty out)) }
+    {
+        if self.first < limit(s.wide, s.faulty, out) {
+            return 0;
+        }
+        if self.last < s.faulty as u64 {
+            return 1;
+        }
+        s.wide
+    }
 }
 
 // A first count below this has a message in transit: what was sent, and where it is the only count, one from each faulty board.
@@ -154,46 +170,4 @@ fn choose(test: bool, x: u64, y: u64) -> u64
     ensures { result ≡ (x if test else y) }
 {
     if test { x } else { y }
-}
-
-// The lowest source of a message in transit, by the same words; as many as there are sources where there is none.
-pub fn first_source(
-    level: usize,
-    wide: usize,
-    c: usize,
-    f: usize,
-    v: u64,
-    w: u64,
-    out: u64,
-) -> usize
-    requires f_bound { (c + f ≤ 64) × (wide ≡ forms.wide level) }
-    requires out_le_in_step { (level ≡ 0 → ⊥) → out ≤ in_step }
-    ensures { result ≡ least (column level c f).sources (λ q. (column level c f).in_transit q (coll level c f (two v w)) (shown level c f out)) }
-{
-    if level == 0 {
-        first_sender(c, f, v, out)
-    } else {
-        first_count(level, wide, c, f, v, w, out)
-    }
-}
-
-fn first_sender(c: usize, f: usize, got: u64, out: u64) -> usize
-    requires { c + f ≤ 64 }
-    ensures { result ≡ least (c + f) (λ q. (passing c f).in_transit q got out) }
-{
-    senders::lowest_in_transit(out, got, c as u64, (c + f) as u64) as usize
-}
-
-// Of one count, 1 is as many as there are sources: the second test then makes no difference.
-fn first_count(level: usize, wide: usize, c: usize, f: usize, v: u64, w: u64, out: u64) -> usize
-    requires { (f ≤ 64) × (wide ≡ forms.wide level) × (level ≡ 0 → ⊥) × (out ≤ in_step) }
-    ensures { result ≡ least (column level c f).sources (λ q. (column level c f).in_transit q (coll level c f (two v w)) (shown level c f out)) }
-{
-    if v < limit(wide, f, out) {
-        return 0;
-    }
-    if w < f as u64 {
-        return 1;
-    }
-    wide
 }

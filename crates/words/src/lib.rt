@@ -1,21 +1,25 @@
 // The words of a configuration: where a cell and a sent word stand, what they show, and the changes that a step makes.
 #![tactic(auto)]
 
-ghost use Rattle.std.specs.Prelude.{◌≡◌, ◌+◌, ◌≤◌, ◌<◌, length, set};
+ghost use Rattle.std.specs.Prelude.{◌≡◌, ℕ, ◌+◌, ◌≤◌, ◌<◌, length, set};
 ghost use Rattle.senders.specs.Tally.{least};
 ghost use Rattle.senders.specs.Set.{mem, correct_count};
 ghost use Rattle.paper.specs.Words.{cell_at, sent_at, stopped_at};
 ghost use Rattle.paper.specs.Words as words;
 ghost use Rattle.paper.specs.Form as forms;
-ghost use Rattle.words.specs.Words.{room_of, column_in, stopped_of, awake_state, count_in, correct_in, faulty_in, sent_count_in, transit_in};
+ghost use Rattle.words.specs.Words.{room_of, column_in, held_in, got_in, stopped_of, awake_state, count_in, correct_in, faulty_in, sent_count_in, transit_in};
 ghost use Rattle.words.specs.Facts.{in_step, most_words, Bounded, Holds, At, Sourced};
 
 pub mod level; // what the words of a cell come to, by the level's number
 
+use level::Cell;
+
 // The numbers that stepping goes by; rules are counted here so that a step has them beside the others.
+// Stays: no invariant in place of the clause `Bounded`, since the definition `sizes_of` makes these numbers of any bytes, read or not.
 #[derive(Clone, Copy)]
 pub struct Sizes {
-    // 0 message, 1 counting, 2 plain
+    // 0 message, 1 counting, 2 plain.
+    // Stays: a translation goes from level to level by j + 1 and j - 1, and the laws of `column` go by induction on that number.
     pub level: usize,
     pub correct: usize,
     pub faulty: usize,
@@ -26,6 +30,23 @@ pub struct Sizes {
     pub row: usize,
     // how many boards may be faulty or stopped
     pub tolerated: usize,
+}
+
+// The numbers where nothing is.
+pub fn none() -> Sizes
+    ensures bounded { Bounded result }
+    ensures empty { result.rules ≡ 0 }
+{
+    Sizes {
+        level: 0,
+        correct: 0,
+        faulty: 0,
+        types: 0,
+        rules: 0,
+        wide: 1,
+        row: 0,
+        tolerated: 0,
+    }
 }
 
 // The most words that a configuration has: 64 states, 64 · 4 cells of two words, 4 sent, the stopped boards.
@@ -71,14 +92,26 @@ fn last_of(s: Sizes, i: usize) -> usize
     i + (s.wide - 1)
 }
 
+// What board p has received of type m.
+fn cell_in(s: Sizes, w: &[u64], p: usize, m: usize) -> Cell
+    requires { (Bounded s) × (At s p m) × (length w.now ≡ room_of s) }
+    ensures shows { held_in s result ≡ got_in s w.now p m }
+    ensures small { (k : ℕ) → Holds s k w.now → (s.level ≡ 0 → ⊥) → (result.first ≤ k) × (result.last ≤ k) }
+{
+    let i = cell_at(s, p, m);
+    let j = last_of(s, i);
+    Cell {
+        first: w[i],
+        last: w[j],
+    }
+}
+
 // How many messages of type m board p has received.
 pub fn count(s: Sizes, w: &[u64], p: usize, m: usize) -> u64
     requires { (Bounded s) × (At s p m) × (Holds s in_step w.now) }
     ensures { (result ≡ count_in s w.now p m) × (result ≤ 2000000) }
 {
-    let i = cell_at(s, p, m);
-    let j = last_of(s, i);
-    level::card(s.level, s.wide, s.correct, s.faulty, w[i], w[j])
+    cell_in(s, w, p, m).card(s)
 }
 
 // How many of them are from correct boards; where one count has them all, how many there are.
@@ -86,9 +119,7 @@ pub fn correct_in(s: Sizes, w: &[u64], p: usize, m: usize) -> u64
     requires { (Bounded s) × (At s p m) × (length w.now ≡ room_of s) }
     ensures { result ≡ correct_in s w.now p m }
 {
-    let i = cell_at(s, p, m);
-    let j = last_of(s, i);
-    level::from_correct(s.level, s.correct, s.faulty, w[i], w[j])
+    cell_in(s, w, p, m).from_correct(s)
 }
 
 // And how many from faulty ones, where that is told.
@@ -96,9 +127,7 @@ pub fn faulty_in(s: Sizes, w: &[u64], p: usize, m: usize) -> u64
     requires { (Bounded s) × (At s p m) × (length w.now ≡ room_of s) }
     ensures { result ≡ faulty_in s w.now p m }
 {
-    let i = cell_at(s, p, m);
-    let j = last_of(s, i);
-    level::from_faulty(s.level, s.correct, s.faulty, w[i], w[j])
+    cell_in(s, w, p, m).from_faulty(s)
 }
 
 // How many boards have sent type m.
@@ -106,8 +135,8 @@ pub fn sent_in(s: Sizes, w: &[u64], m: usize) -> u64
     requires { (Bounded s) × (m < s.types) × (length w.now ≡ room_of s) }
     ensures { result ≡ sent_count_in s w.now m }
 {
-    let i = sent_at(s, m);
-    level::from_correct(s.level, s.correct, s.faulty, w[i], 0)
+    let first = w[sent_at(s, m)];
+    Cell { first, last: 0 }.from_correct(s)
 }
 
 // The state of board p.
@@ -123,10 +152,8 @@ pub fn in_transit(s: Sizes, w: &[u64], p: usize, m: usize, q: usize) -> bool
     requires { (Bounded s) × (At s p m) × (Sourced s q) × (Holds s in_step w.now) }
     ensures { result ≡ transit_in s w.now p m q }
 {
-    let i = cell_at(s, p, m);
-    let j = last_of(s, i);
     let k = sent_at(s, m);
-    level::in_transit(s.level, s.wide, s.correct, s.faulty, q, w[i], w[j], w[k])
+    cell_in(s, w, p, m).in_transit(s, q, w[k])
 }
 
 // The set of stopped boards.
@@ -146,13 +173,17 @@ pub fn is_stopped(s: Sizes, w: &[u64], p: usize) -> bool
     senders::has(stopped_in(s, w), p as u64)
 }
 
+// What a stopped board has in place of a state, which is a byte.
+// Stays: a rule's state is compared with it once for both, and with an Option each caller would need a second test.
+const NO_STATE: u64 = 256;
+
 // The state of board p; of a stopped one a number that is no state, so that no rule leaves it.
 pub fn awake_state(s: Sizes, w: &[u64], p: usize) -> u64
     requires { (Bounded s) × (p < s.correct) × (length w.now ≡ room_of s) }
     ensures { result ≡ awake_state s w.now p }
 {
     if is_stopped(s, w, p) {
-        return 256;
+        return NO_STATE;
     }
     state_in(s, w, p)
 }
@@ -190,10 +221,8 @@ pub fn first_source(s: Sizes, w: &[u64], p: usize, m: usize) -> usize
     requires { (Bounded s) × (At s p m) × (Holds s in_step w.now) }
     ensures { result ≡ least (column_in s).sources (transit_in s w.now p m) }
 {
-    let i = cell_at(s, p, m);
-    let j = last_of(s, i);
     let k = sent_at(s, m);
-    level::first_source(s.level, s.wide, s.correct, s.faulty, w[i], w[j], w[k])
+    cell_in(s, w, p, m).first_source(s, w[k])
 }
 
 // Board p receives the message of type m from q.

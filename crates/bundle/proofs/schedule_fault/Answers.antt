@@ -5,29 +5,9 @@ use Rattle.bundle.specs.Refusals.{schedule_fault}
 use Rattle.fault.proofs.FaultLaws.{if_yes, if_no}
 use Rattle.bundle.proofs.schedule_fault.Goals as goal
 
-pub factor-requires : goal.factor-requires
-unfolding schedule_fault
-factor-requires c = search rules
-
-pub not_admitted-requires : goal.not_admitted-requires
-unfolding schedule_fault
-not_admitted-requires c = search rules
-
-pub refusal-requires : goal.refusal-requires
-unfolding schedule_fault
-refusal-requires c = search rules
-
 pub returns-then-not_admitted : goal.returns-then-not_admitted
 unfolding schedule_fault
 returns-then-not_admitted c = search (if_yes, admitted-with, rules)
-
-pub steps_off-requires : goal.steps_off-requires
-unfolding schedule_fault
-steps_off-requires c = search rules
-
-pub refusal-requires-then-steps_off : goal.refusal-requires-then-steps_off
-unfolding schedule_fault
-refusal-requires-then-steps_off c = search rules
 
 pub returns-then-steps_off : goal.returns-then-steps_off
 unfolding schedule_fault
@@ -36,10 +16,6 @@ returns-then-steps_off c = search (if_yes, if_no, admitted-with, rules)
 pub starts-requires : goal.starts-requires
 unfolding schedule_fault
 starts-requires c = (search rules, search parted)
-
-pub starts_fault-requires : goal.starts_fault-requires
-unfolding schedule_fault
-starts_fault-requires c = search rules
 
 pub returns : goal.returns
 unfolding schedule_fault

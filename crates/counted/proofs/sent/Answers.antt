@@ -1,26 +1,15 @@
--- The sent counts of the types below m are summed; each is small.
+-- Each sent count is small, and it is that of its type.
+use Prim.Native.Nat.{ℕ, ◌≤◌, ◌<◌}
 use native.Mathlib.Omega.{arith}
-use Rattle.counted.proofs.SumLaws.{sum-begins, sum_goes, sum-ends, sent-small}
+use Rattle.words.specs.Facts.{at_end}
+use Rattle.words.specs.Words.{sent_count_in}
+use Rattle.counted.proofs.SumLaws.{sent-small}
 use Rattle.counted.proofs.sent.Goals as goal
 
-pub loop-m-init : goal.loop-m-init
-loop-m-init c = (omega arith, sum-begins _, omega arith)
-
-pub sent_in-x-requires : goal.sent_in-x-requires
-sent_in-x-requires c = let a = c.args in (c.requires.0, c.loop-m-test.true, c.requires.1.fits)
-
-pub overflow_add-x : goal.overflow_add-x
-overflow_add-x c = let a = c.args in omega (arith, c.loop-m.invariant.0, c.loop-m.invariant.2, c.loop-m-test.true, c.sent_in-x.ensures, sent-small a.s a.w.now c.loop-m.m c.requires.0 c.requires.1 c.loop-m-test.true, c.requires.0.types)
-
-pub overflow_add-m : goal.overflow_add-m
-overflow_add-m c = omega (arith, c.loop-m-test.true, c.requires.0.types)
-
-pub loop-m-smaller : goal.loop-m-smaller
-loop-m-smaller c = omega (arith, c.loop-m-test.true)
-
-pub loop-m-preserved : goal.loop-m-preserved
-loop-m-preserved c = let a = c.args in
-    (omega (arith, c.loop-m-test.true), sum_goes _ c.loop-m.m c.loop-m.invariant.1 c.sent_in-x.ensures, omega (arith, c.loop-m.invariant.2, c.sent_in-x.ensures, sent-small a.s a.w.now c.loop-m.m c.requires.0 c.requires.1 c.loop-m-test.true))
+pub sum_of-requires-clause-small : goal.sum_of-requires-clause-small
+sum_of-requires-clause-small c = let a = c.args in
+    let small : (m : ℕ) → m < a.s.types → sent_count_in a.s a.w.now m ≤ at_end = λ m h. sent-small a.s a.w.now m c.requires.0 c.requires.1 h in
+    λ m x h q. omega (arith, q, small)
 
 pub returns : goal.returns
-returns c = let a = c.args in sum-ends _ c.loop-m.invariant.1 c.loop-m.invariant.0 c.loop-m-test.false
+returns c = let a = c.args in c.sum_of.ensures.value (λ m. sent_count_in a.s a.w.now m) (λ m x h q. omega (arith, q))

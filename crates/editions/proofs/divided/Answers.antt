@@ -1,17 +1,7 @@
--- The loop keeps that no rule before i has an e other than 1, so the first that it finds is the lowest. It counts up to the number of rules.
+-- The lowest rule with a refusal is that of `first_fault`, since each answers as `rule_divides` says.
 use borrow.Author.Rules.{rules}
-use Rattle.fault.proofs.FaultLaws.{first-none, first_found, first_more, first-never}
 use Rattle.editions.specs.Entry.{rule_divides}
 use Rattle.editions.proofs.divided.Goals as goal
 
-pub loop-i-init : goal.loop-i-init
-loop-i-init c = (search rules, first-none (rule_divides _))
-
-pub returns-then-k-ne0 : goal.returns-then-k-ne0
-returns-then-k-ne0 c = search (first_found, rules)
-
-pub loop-i-preserved : goal.loop-i-preserved
-loop-i-preserved c = (search rules, search first_more)
-
 pub returns : goal.returns
-returns c = search (first-never, rules)
+returns c = rw c.rules.ensures.0 at (c.lowest.ensures (rule_divides c.args.table.now) (λ i r h p. search rules))

@@ -4,13 +4,13 @@ use Rattle.senders.proofs.TallyLaws.{some-none, some_more, some-found, some-neve
 use Rattle.editions.proofs.divides.Goals as goal
 
 pub loop-m-init : goal.loop-m-init
-loop-m-init c = (search rules, search some-none)
+loop-m-init c = search some-none
 
 pub returns-then-divides_at : goal.returns-then-divides_at
 returns-then-divides_at c = search (some-found, rules)
 
 pub loop-m-preserved : goal.loop-m-preserved
-loop-m-preserved c = (search rules, search some_more)
+loop-m-preserved c = search some_more
 
 pub returns : goal.returns
 returns c = search (some-never, rules)

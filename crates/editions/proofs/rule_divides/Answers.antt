@@ -10,5 +10,5 @@ divides-requires c = (search rules, search record_long)
 pub returns-then-divides : goal.returns-then-divides
 returns-then-divides c = search rule-divides_yes
 
-pub returns-else-divides : goal.returns-else-divides
-returns-else-divides c = search rule-divides_no
+pub returns : goal.returns
+returns c = search rule-divides_no

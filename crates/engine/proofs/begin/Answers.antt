@@ -12,9 +12,9 @@ place-requires c = let a = c.args in
 
 pub shape_of-w : goal.shape_of-w
 shape_of-w c = let a = c.args in
-    ap length (begun a.s a.starts.now c.requires.0 (length a.w.now) c.requires.1 c.clear.ensures c.place.ensures) ∙ (first_holds a.s a.starts.now c.requires.0 (λ i. omega (arith, c.shared_slice_known-1.given i))).fits ∙ sym c.requires.1
+    ap length (begun a.s a.starts.now c.requires.0 (length a.w.now) c.requires.1 c.clear.ensures c.place.ensures) ∙ (first_holds a.s a.starts.now c.requires.0 (λ i. omega (arith, c.type_inv.starts i))).fits ∙ sym c.requires.1
 
 pub returns : goal.returns
 returns c = let a = c.args in
     let e = begun a.s a.starts.now c.requires.0 (length a.w.now) c.requires.1 c.clear.ensures c.place.ensures in
-    record { w_after = e; holds = subst⁻¹ (Holds a.s 256) e (first_holds a.s a.starts.now c.requires.0 (λ i. omega (arith, c.shared_slice_known-1.given i))) }
+    record { w_after = e; holds = subst⁻¹ (Holds a.s 256) e (first_holds a.s a.starts.now c.requires.0 (λ i. omega (arith, c.type_inv.starts i))) }

@@ -9,21 +9,21 @@ use Rattle.engine.proofs.RunLaws.{placed_long, placed_more}
 use Rattle.engine.proofs.place.Goals as goal
 
 pub loop-i-init : goal.loop-i-init
-loop-i-init c = (omega arith, refl)
+loop-i-init c = refl
 
 pub bounds-w-i : goal.bounds-w-i
 bounds-w-i c = let a = c.args in
-    omega (arith, ap length c.loop-i.invariant.1 ∙ placed_long a.w.now a.starts.now c.loop-i.i c.loop-i.invariant.0 (omega (arith, c.loop-i.invariant.0, c.requires)), c.requires, c.loop-i-test.true)
+    omega (arith, ap length c.loop-i.invariant ∙ placed_long a.w.now a.starts.now c.loop-i.i c.loop-i.auto.i-end (omega (arith, c.loop-i.auto.i-end, c.requires)), c.requires, c.loop-i-test.true)
 
 pub loop-i-preserved : goal.loop-i-preserved
 loop-i-preserved c = let a = c.args in let h = c.loop-i-test.true in
-    (omega arith, placed_more a.w.now a.starts.now c.loop-i.i c.byte_at.result c.loop-i.invariant.1 h (omega (arith, h, c.requires)) c.byte_at.ensures.0)
+    placed_more a.w.now a.starts.now c.loop-i.i _ c.loop-i.invariant h (omega (arith, h, c.requires)) c.from.ensures
 
 pub shape_of-w : goal.shape_of-w
 shape_of-w c = let a = c.args in
-    ap length c.loop-i.invariant.1 ∙ placed_long a.w.now a.starts.now c.loop-i.i c.loop-i.invariant.0 (omega (arith, c.loop-i.invariant.0, c.requires))
+    ap length c.loop-i.invariant ∙ placed_long a.w.now a.starts.now c.loop-i.i c.loop-i.auto.i-end (omega (arith, c.loop-i.auto.i-end, c.requires))
 
 pub returns : goal.returns
 returns c = let a = c.args in
-    let e : c.loop-i.i ≡ length a.starts.now = omega (arith, c.loop-i.invariant.0, c.loop-i-test.false) in
-    c.loop-i.invariant.1 ∙ ap (λ (k : ℕ). take k a.starts.now ++ drop k a.w.now) e ∙ ap (λ (v : List ℕ). v ++ drop (length a.starts.now) a.w.now) (take-length a.starts.now)
+    let e : c.loop-i.i ≡ length a.starts.now = omega (arith, c.loop-i.auto.i-end, c.loop-i-test.false) in
+    c.loop-i.invariant ∙ ap (λ (k : ℕ). take k a.starts.now ++ drop k a.w.now) e ∙ ap (λ (v : List ℕ). v ++ drop (length a.starts.now) a.w.now) (take-length a.starts.now)

@@ -1,16 +1,11 @@
--- The loop keeps that no divisor before m is outside: one that is ends it, and past the last type there is none.
+-- A divisor is outside exactly if the test over all types says yes.
+use mathlib.Core.Path.{refl, ap, ◌∙◌}
 use borrow.Author.Rules.{rules}
-use Rattle.senders.proofs.TallyLaws.{some-none, some_more, some-found, some-never}
+use Rattle.senders.specs.Tally.{some}
+use Rattle.senders.proofs.RangeLaws.{any_some}
+use Rattle.layout.specs.Layout.{divisor_outside}
 use Rattle.layout.proofs.divisor_outside.Goals as goal
 
-pub loop-m-init : goal.loop-m-init
-loop-m-init c = (search rules, search some-none)
-
-pub returns-then-outside_at : goal.returns-then-outside_at
-returns-then-outside_at c = search (some-found, rules)
-
-pub loop-m-preserved : goal.loop-m-preserved
-loop-m-preserved c = (search rules, search some_more)
-
 pub returns : goal.returns
-returns c = search (some-never, rules)
+returns c = let a = c.args in let P = divisor_outside a.byte a.rule.now in
+    any_some c.types_in.result P _ _ c.any.result refl c.any.ensures.ran (λ x b q k. search rules) ∙ ap (λ n. some n P) c.types_in.ensures.0

@@ -8,7 +8,7 @@ use Rattle.replay.proofs.EntryLaws.{made_parts}
 use Rattle.replay.proofs.replay_in.Goals as goal
 
 pub run_in-requires : goal.run_in-requires
-run_in-requires c = (made_parts c.args.s c.args.bundle.now c.args.log.now c.requires.0 c.write.ensures, c.requires.1, c.requires.2, c.requires.3, c.requires.5)
+run_in-requires c = (made_parts c.args.rules.sizes c.args.bundle.now c.args.log.now c.requires.0 c.write.ensures, c.requires.2)
 
 pub returns : goal.returns
-returns c = let s = c.args.s in record { by_design = λ d K. c.run_in.ensures.by_design d K ∙ ap (λ (x : List ℕ). ran_answer (run s.level d (start_in s x) (schedule_of x))) c.write.ensures; by_design_2 = λ d K. c.run_in.ensures.by_design_2 d K ∙ ap (λ (x : List ℕ). (run s.level d (start_in s x) (schedule_of x)).left) c.write.ensures; out_after = c.write.ensures }
+returns c = let s = c.args.rules.sizes in record { by_design = λ d K. c.ran.ensures ∙ c.run_in.ensures.by_design d K ∙ ap (λ (x : List ℕ). ran_answer (run s.level d (start_in s x) (schedule_of x))) c.write.ensures; by_design_2 = λ d K. c.run_in.ensures.by_design_2 d K ∙ ap (λ (x : List ℕ). (run s.level d (start_in s x) (schedule_of x)).left) c.write.ensures; out_after = c.write.ensures }

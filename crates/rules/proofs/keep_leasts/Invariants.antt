@@ -1,10 +1,6 @@
 -- Type by type, the least count that meets the threshold is stored beside those before it, which stay.
-use Prim.Native.Nat.{◌-◌, ◌≤◌}
 use Rattle.rules.specs.Facts.{RowTo}
 use Rattle.rules.proofs.keep_leasts.Given as goal
 
 abbrev pub invariant-loop-m : goal.invariant-loop-m
-invariant-loop-m l = (l.m ≤ l.types) × RowTo l.s l.byte l.t l.rule l.initial.leasts l.leasts l.r l.m
-
-abbrev pub decreases-loop-m : goal.decreases-loop-m
-decreases-loop-m l = l.types - l.m
+invariant-loop-m l = RowTo l.s l.byte l.t l.rule l.initial.leasts l.leasts l.r l.m

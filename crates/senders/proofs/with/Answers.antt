@@ -2,14 +2,9 @@
 use mathlib.Core.Path.{◌≡◌}
 use Prim.Native.Nat.{◌%◌}
 use native.Mathlib.Omega.{arith}
-use borrow.Author.Rules.{rules}
 use Rattle.senders.specs.Set.{insert}
 use Rattle.senders.proofs.WordLaws.{shl_one}
 use Rattle.senders.proofs.with.Goals as goal
-
-pub overflow_shl-result : goal.overflow_shl-result
-unfolding insert
-overflow_shl-result c = search rules
 
 pub returns : goal.returns
 unfolding insert

@@ -1,19 +1,6 @@
 -- The bytes are those of the word where the number of the first four and that of the last two are.
-use native.Mathlib.Omega.{arith}
 use Rattle.service_log.proofs.PieceLaws.{begins_six}
 use Rattle.service_log.proofs.begins.Goals as goal
-
-pub four-requires : goal.four-requires
-four-requires c = omega (arith, c.requires.0)
-
-pub four-requires-2 : goal.four-requires-2
-four-requires-2 c = omega (arith, c.requires.1)
-
-pub u16_at-requires : goal.u16_at-requires
-u16_at-requires c = omega (arith, c.requires.0)
-
-pub u16_at-requires-2 : goal.u16_at-requires-2
-u16_at-requires-2 c = omega (arith, c.requires.1)
 
 pub returns : goal.returns
 returns c = begins_six c.requires.1 c.requires.0 c.four.ensures c.four-2.ensures

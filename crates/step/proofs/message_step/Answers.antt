@@ -8,29 +8,29 @@ use Rattle.step.proofs.message_step.Goals as goal
 
 pub returns-then-x-eq-STOP : goal.returns-then-x-eq-STOP
 returns-then-x-eq-STOP c = let a = c.args in
-    let both = stop-heard a.s a.ends.now a.leasts.now a.w.now (meant a.x) c.requires.4 (eq-eqb a.x.rule 254 c.if-x-eq-STOP.true) c.requires.5 in
+    let both = stop-heard a.rules.sizes a.rules.ends.now a.rules.leasts.now a.w.now (meant a.x) c.requires.1 (eq-eqb a.x.rule 254 c.if-x-eq-STOP.true) c.requires.2 in
     record { value = both.0; w_after = both.1 }
 
 pub returns-else-x-eq-STOP : goal.returns-else-x-eq-STOP
 returns-else-x-eq-STOP c = let a = c.args in
-    let both = by_rule_lem a.s a.ends.now a.leasts.now a.w.now (meant a.x) c.requires.4 (ne_eqb a.x.rule 254 c.if-x-eq-STOP.false) (fault-rule a.s a.ends.now a.leasts.now a.w.now (meant a.x) refl (lt-leb _ _ c.requires.4.board) c.at_least.ensures c.if-at_least.true) in
+    let both = by_rule_lem a.rules.sizes a.rules.ends.now a.rules.leasts.now a.w.now (meant a.x) c.requires.1 (ne_eqb a.x.rule 254 c.if-x-eq-STOP.false) (fault-rule a.rules.sizes a.rules.ends.now a.rules.leasts.now a.w.now (meant a.x) refl (lt-leb _ _ c.requires.1.board) c.at_least.ensures c.if-at_least.true) in
     record { value = both.0; w_after = both.1 }
 
 pub other_state-requires : goal.other_state-requires
 other_state-requires c = let a = c.args in
-    (c.requires.1, omega (arith, (below a.x.rule a.s.rules c.at_least.ensures c.if-at_least.false), c.requires.0.rules), omega (arith, c.requires.3.fits, board_in_room a.s a.x.board c.requires.4.board))
+    (omega (arith, (below a.x.rule a.rules.sizes.rules c.at_least.ensures c.if-at_least.false), c.args.rules.bounded.rules), omega (arith, c.requires.0.fits, board_in_room a.rules.sizes a.x.board c.requires.1.board))
 
 pub returns-then-other_state : goal.returns-then-other_state
 returns-then-other_state c = let a = c.args in
-    let both = by_rule_lem a.s a.ends.now a.leasts.now a.w.now (meant a.x) c.requires.4 (no_stop a.s (meant a.x) c.requires.0.rules (below a.x.rule a.s.rules c.at_least.ensures c.if-at_least.false))
-    (fault-state a.s a.ends.now a.leasts.now a.w.now (meant a.x) refl (lt-leb _ _ c.requires.4.board) c.at_least.ensures c.if-at_least.false c.other_state.ensures c.if-other_state.true) in
+    let both = by_rule_lem a.rules.sizes a.rules.ends.now a.rules.leasts.now a.w.now (meant a.x) c.requires.1 (no_stop a.rules.sizes (meant a.x) c.args.rules.bounded.rules (below a.x.rule a.rules.sizes.rules c.at_least.ensures c.if-at_least.false))
+    (fault-state a.rules.sizes a.rules.ends.now a.rules.leasts.now a.w.now (meant a.x) refl (lt-leb _ _ c.requires.1.board) c.at_least.ensures c.if-at_least.false c.other_state.ensures c.if-other_state.true) in
     record { value = both.0; w_after = both.1 }
 
 pub with_message-requires : goal.with_message-requires
 with_message-requires c = let a = c.args in
-    (c.requires.0, c.requires.1, c.requires.2, c.requires.3, leaves_by a.s a.ends.now a.leasts.now a.w.now (meant a.x) refl (lt-leb _ _ c.requires.4.board) c.at_least.ensures c.if-at_least.false c.other_state.ensures c.if-other_state.false, c.requires.5)
+    (c.requires.0, leaves_by a.rules.sizes a.rules.ends.now a.rules.leasts.now a.w.now (meant a.x) refl (lt-leb _ _ c.requires.1.board) c.at_least.ensures c.if-at_least.false c.other_state.ensures c.if-other_state.false, c.requires.2)
 
 pub returns : goal.returns
 returns c = let a = c.args in
-    let both = by_rule_lem a.s a.ends.now a.leasts.now a.w.now (meant a.x) c.requires.4 (no_stop a.s (meant a.x) c.requires.0.rules (below a.x.rule a.s.rules c.at_least.ensures c.if-at_least.false)) (c.with_message.ensures.value, c.with_message.ensures.w_after) in
+    let both = by_rule_lem a.rules.sizes a.rules.ends.now a.rules.leasts.now a.w.now (meant a.x) c.requires.1 (no_stop a.rules.sizes (meant a.x) c.args.rules.bounded.rules (below a.x.rule a.rules.sizes.rules c.at_least.ensures c.if-at_least.false)) (c.with_message.ensures.value, c.with_message.ensures.w_after) in
     record { value = both.0; w_after = both.1 }

@@ -1,17 +1,14 @@
--- The loop keeps that no state before i is initial: one that is ends it with no, and past the last state there is none.
+-- No state is initial exactly if the test over all of them says no.
+use mathlib.Core.Path.{refl, ap, ◌∙◌}
+use mathlib.Core.Bool.{not}
 use borrow.Author.Rules.{rules}
-use Rattle.senders.proofs.TallyLaws.{some-none, some_more}
-use Rattle.table.proofs.TableLaws.{initial-found, initial-never}
+use Rattle.senders.specs.Tally.{some}
+use Rattle.senders.proofs.RangeLaws.{any_some}
+use Rattle.table.specs.Table.{initial_of}
+use Rattle.table.specs.Refusals.{no_initial}
 use Rattle.table.proofs.no_initial.Goals as goal
 
-pub loop-i-init : goal.loop-i-init
-loop-i-init c = (search rules, search some-none)
-
-pub returns-then-initial : goal.returns-then-initial
-returns-then-initial c = search (initial-found, rules)
-
-pub loop-i-preserved : goal.loop-i-preserved
-loop-i-preserved c = (search rules, search some_more)
-
 pub returns : goal.returns
-returns c = search (initial-never, rules)
+unfolding no_initial
+returns c = let P = initial_of c.args.s.now in
+    ap not (any_some c.states.result P _ _ c.any.result refl c.any.ensures.ran (λ x b q k. search rules) ∙ ap (λ n. some n P) c.states.ensures.0)

@@ -9,10 +9,6 @@ pub too_short-requires : goal.too_short-requires
 unfolding table_fault
 too_short-requires c = search rules
 
-pub refusal-requires : goal.refusal-requires
-unfolding table_fault
-refusal-requires c = search rules
-
 pub returns-then-too_short : goal.returns-then-too_short
 unfolding table_fault
 returns-then-too_short c = search (if_yes, if_no, rules)
@@ -21,10 +17,6 @@ pub counts_off-requires : goal.counts_off-requires
 unfolding table_fault
 counts_off-requires c = search long_by
 
-pub refusal-requires-then-counts_off : goal.refusal-requires-then-counts_off
-unfolding table_fault
-refusal-requires-then-counts_off c = search rules
-
 pub returns-then-counts_off : goal.returns-then-counts_off
 unfolding table_fault
 returns-then-counts_off c = search (if_yes, if_no, rules)
@@ -32,10 +24,6 @@ returns-then-counts_off c = search (if_yes, if_no, rules)
 pub distances_off-requires : goal.distances_off-requires
 unfolding table_fault
 distances_off-requires c = search long_by
-
-pub refusal-requires-then-distances_off : goal.refusal-requires-then-distances_off
-unfolding table_fault
-refusal-requires-then-distances_off c = search rules
 
 pub returns-then-distances_off : goal.returns-then-distances_off
 unfolding table_fault

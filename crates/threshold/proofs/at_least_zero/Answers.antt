@@ -1,16 +1,16 @@
--- By the sign: a negative number gives 0, and any other is its own size, which fits 16 bits.
-use native.Mathlib.Omega.{arith}
+-- The larger of the number and 0 is the least count; it is small, so that its bits say it.
+use mathlib.Core.Path.{◌≡◌, ◌∙◌}
+use lib.IntN.{pos}
 use mir.Facts.{to_z-of_z}
-use Rattle.threshold.proofs.LeastLaws.{least-negative, least_natural, least_size}
+use mir.Syntax.{w64}
+use mir.Val.{to_z, of_z}
+use Rattle.std.specs.Int.{int_max}
+use Rattle.threshold.proofs.LeastLaws.{least-max}
+use Rattle.threshold.proofs.SizeLaws.{bits_back}
 use Rattle.threshold.proofs.at_least_zero.Goals as goal
 
-pub overflow_cast-result : goal.overflow_cast-result
-overflow_cast-result c = let e = to_z-of_z c.ranges.z in
-    rw e (least_natural c.args.z (rw e at c.if-z-lt0.false) c.requires)
-
-pub returns-then-z-lt0 : goal.returns-then-z-lt0
-returns-then-z-lt0 c = (least-negative c.args.z (rw (to_z-of_z c.ranges.z) at c.if-z-lt0.true), omega arith)
-
-pub returns-else-z-lt0 : goal.returns-else-z-lt0
-returns-else-z-lt0 c = let e = to_z-of_z c.ranges.z in
-    rw e (least_size c.args.z (rw e at c.if-z-lt0.false) c.requires)
+pub returns : goal.returns
+returns c = let z = c.args.z in
+    let e : to_z w64 (of_z w64 c.max.result) ≡ int_max z (pos 0) =
+    bits_back c.max.result c.max.type_inv ∙ rw (to_z-of_z c.ranges.z) at c.max.ensures.value in
+    rw e (least-max z c.requires)

@@ -1,22 +1,9 @@
 -- The sum, or 0 in place of a negative one, divided and rounded up is the least count of the threshold: a negative sum's threshold is at most 0.
 use mathlib.Core.Path.{ap, ◌∙◌}
-use borrow.Author.Rules.{rules}
 use Rattle.threshold.specs.Threshold.{sum_of, threshold_of, least_of}
 use Rattle.threshold.proofs.SizeLaws.{bits_back}
 use Rattle.threshold.proofs.QuotientLaws.{least-divided}
 use Rattle.threshold.proofs.least.Goals as goal
-
-pub sum-requires : goal.sum-requires
-unfolding threshold_of
-sum-requires c = search rules
-
-pub at_least_zero-requires : goal.at_least_zero-requires
-unfolding threshold_of
-at_least_zero-requires c = search rules
-
-pub divided-requires : goal.divided-requires
-unfolding threshold_of
-divided-requires c = search rules
 
 pub returns : goal.returns
 unfolding threshold_of

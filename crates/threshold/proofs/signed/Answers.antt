@@ -1,17 +1,14 @@
--- A byte moved up by 128, cut to eight bits and moved down again is the number that it has in two's complement.
-use mathlib.Core.Path.{refl}
-use native.Mathlib.Omega.{arith}
-use Prim.Native.Nat.{◌+◌, ◌%◌}
+-- The library's cast of a byte is two's complement, and widening keeps the number.
+use mathlib.Core.Path.{◌≡◌, ◌∙◌}
+use mir.Facts.{to_z-of_z}
+use mir.Syntax.{w8, w64}
+use mir.Val.{to_z, of_z}
 use Rattle.threshold.specs.Threshold.{signed_byte}
-use Rattle.threshold.proofs.SizeLaws.{bits_back, small, turned-byte, byte_small}
+use Rattle.threshold.proofs.SizeLaws.{bits_back, signed-byte, byte_small}
 use Rattle.threshold.proofs.signed.Goals as goal
 
-pub overflow_sub-result : goal.overflow_sub-result
-overflow_sub-result c = let x = c.args.x in
-    let h = c.ranges.x.fits in
-    rw (small ((x + 128) % 256) (omega arith), turned-byte x h) (record { sfits = omega (arith, byte_small x h) })
-
 pub returns : goal.returns
-returns c = let x = c.args.x in
-    let h = c.ranges.x.fits in
-    rw (small ((x + 128) % 256) (omega arith), turned-byte x h, bits_back (signed_byte x) (omega (arith, byte_small x h))) (refl, byte_small x h)
+returns c =
+    let e : to_z w64 (of_z w64 c.from.result) ≡ signed_byte c.args.x =
+    bits_back c.from.result c.from.type_inv ∙ c.from.ensures ∙ to_z-of_z {w = w8} (record { sfits = c.cast_signed.type_inv }) ∙ c.cast_signed.ensures ∙ signed-byte c.args.x in
+    (e, rw e (byte_small c.args.x c.ranges.x.fits))

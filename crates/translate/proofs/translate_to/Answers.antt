@@ -1,9 +1,6 @@
--- Room for the rules and for a configuration is made, and the translation is in it.
-use mathlib.Core.Path.{refl}
+-- The answer is that of the result.
+use mathlib.Core.Path.{◌∙◌}
 use Rattle.translate.proofs.translate_to.Goals as goal
 
-pub translate_with-requires : goal.translate_with-requires
-translate_with-requires c = (refl, refl, refl)
-
 pub returns : goal.returns
-returns c = record { value = c.translate_with.ensures.value; out_after = c.translate_with.ensures.out_after }
+returns c = record { value = c.from.ensures ∙ c.translated.ensures.value; out_after = c.translated.ensures.out_after }

@@ -1,19 +1,14 @@
 -- Form 1 goes to 0 and every other to 1; bytes too few for a trailer count as another.
 use mathlib.Core.Path.{refl, sym, ◌∙◌}
-use borrow.Author.Rules.{rules}
 use borrow.Author.Tests.{eq-eqb, ne_eqb}
 use Rattle.fault.proofs.FaultLaws.{if_yes, if_no}
 use Rattle.translate.specs.Entry.{usual}
 use Rattle.translate.proofs.EntryLaws.{no_form}
 use Rattle.translate.proofs.usual_form.Goals as goal
 
-pub returns-then-bundle-lt8 : goal.returns-then-bundle-lt8
+pub returns-then-bundle-lt-TRAILER_BYTES : goal.returns-then-bundle-lt-TRAILER_BYTES
 unfolding usual
-returns-then-bundle-lt8 c = if_no _ refl (no_form c.args.bundle.now c.if-bundle-lt8.true) refl
-
-pub form-requires : goal.form-requires
-unfolding usual
-form-requires c = search rules
+returns-then-bundle-lt-TRAILER_BYTES c = if_no _ refl (no_form c.args.bundle.now c.if-bundle-lt-TRAILER_BYTES.true) refl
 
 pub returns-then-form-eq1 : goal.returns-then-form-eq1
 unfolding usual

@@ -1,19 +1,10 @@
 -- The test of the definition; its two answers are the two ends.
-use borrow.Author.Rules.{rules}
 use Rattle.fault.specs.Fault.{◌if◌else◌}
 use Rattle.words.proofs.awake_state.Goals as goal
-
-pub is_stopped-requires : goal.is_stopped-requires
-unfolding ◌if◌else◌
-is_stopped-requires c = search rules
 
 pub returns-then-is_stopped : goal.returns-then-is_stopped
 unfolding ◌if◌else◌
 returns-then-is_stopped c = rw (← c.is_stopped.ensures, c.if-is_stopped.true)
-
-pub state_in-requires : goal.state_in-requires
-unfolding ◌if◌else◌
-state_in-requires c = search rules
 
 pub returns : goal.returns
 unfolding ◌if◌else◌

@@ -2,7 +2,6 @@
 use mathlib.Core.Path.{ap, ◌∙◌}
 use Prim.Native.Nat.{ℕ, ◌+◌}
 use native.Mathlib.Omega.{arith}
-use borrow.Author.Rules.{rules}
 use lib.ListN.{get_or, set}
 use Rattle.words.proofs.LevelCases.{source-few, source-slot}
 use Rattle.words.proofs.PlaceLaws.{cell-before, cell-next}
@@ -11,19 +10,11 @@ use Rattle.paper.specs.Form.{wide, slot, bump}
 use Rattle.paper.specs.Words.{cell, hear}
 use Rattle.words.proofs.hear.Goals as goal
 
-pub cell_at-i-requires : goal.cell_at-i-requires
-unfolding hear cell
-cell_at-i-requires c = search rules
-
 pub receive-requires : goal.receive-requires
 unfolding hear cell
 receive-requires c = let a = c.args in
     let k = a.s.level in
     let i = c.cell_at-i in record { q_bound = (source-few k a.s.correct a.s.faulty a.q c.requires.0.boards c.requires.2.below, i.ensures.2, omega (arith, c.requires.3.fits, i.ensures.1, slot-below k a.s.correct a.s.faulty a.q c.requires.2.below)); q_bound_2 = λ n. (source-slot k a.s.correct a.s.faulty a.q n c.requires.2.below, c.requires.3.small n _ (cell-before a.s i.result (i.result + a.q) i.ensures.1 (omega (arith, source-slot k a.s.correct a.s.faulty a.q n c.requires.2.below)))) }
-
-pub shape_of-w : goal.shape_of-w
-unfolding hear cell
-shape_of-w c = search rules
 
 pub returns : goal.returns
 unfolding hear cell

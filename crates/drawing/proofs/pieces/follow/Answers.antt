@@ -3,11 +3,11 @@ use borrow.Author.Rules.{rules}
 use Rattle.drawing.proofs.PlanLaws.{plan-begins, plan-goes-on, plan-ends}
 use Rattle.drawing.proofs.pieces.follow.Goals as goal
 
-pub loop-j-init : goal.loop-j-init
-loop-j-init c = search (plan-begins, rules)
+pub loop-code-init : goal.loop-code-init
+loop-code-init c = search (plan-begins, rules)
 
-pub loop-j-preserved : goal.loop-j-preserved
-loop-j-preserved c = search plan-goes-on
+pub loop-code-preserved : goal.loop-code-preserved
+loop-code-preserved c = search plan-goes-on
 
 pub returns : goal.returns
 returns c = search (plan-ends, rules)

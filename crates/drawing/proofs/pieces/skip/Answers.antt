@@ -13,4 +13,4 @@ pub loop-j-preserved : goal.loop-j-preserved
 loop-j-preserved c = search gap-goes-on
 
 pub returns : goal.returns
-returns c = search (gap_ends, rules)
+returns c = search gap_ends

@@ -2,14 +2,9 @@
 use mathlib.Core.Path.{◌≡◌}
 use Prim.Native.Nat.{ℕ, ◌+◌}
 use native.Mathlib.Omega.{arith}
-use borrow.Author.Rules.{rules}
 use Rattle.words.proofs.LevelCases.{sets, counts}
 use Rattle.paper.specs.Form.{bump}
 use Rattle.words.proofs.level.bump.Goals as goal
-
-pub with-requires : goal.with-requires
-unfolding bump
-with-requires c = search rules
 
 pub overflow_add-result : goal.overflow_add-result
 unfolding bump
