@@ -82,6 +82,17 @@ pub fn high(x: usize) -> u8
     (x / 256) as u8
 }
 
+// All bytes of `from`, in their places.
+// Stays: with the library's `copy_from_slice` the archive asks C for `memmove` too; a loop over bytes asks for nothing.
+pub fn copy(from: &[u8], to: &mut [u8])
+    requires { length to.old ≡ length from.now }
+    ensures { to.new ≡ from.now }
+{
+    for (i, byte) in from.iter().enumerate() {
+        to[i] = *byte;
+    }
+}
+
 // Byte k of the trailer.
 pub fn trailer_byte(s: &[u8], k: usize) -> usize
     requires { (trailer_bytes ≤ length s.now) × (k < trailer_bytes) }

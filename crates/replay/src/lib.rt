@@ -92,7 +92,7 @@ fn write(bundle: &[u8], log: &[u8], out: &mut [u8])
     ensures { out.new ≡ made_of bundle.now log.now }
 {
     let at = bundle.len() - fault::TRAILER_BYTES;
-    out[..at].copy_from_slice(&bundle[..at]);
+    fault::copy(&bundle[..at], &mut out[..at]);
     append(bundle, log, &mut out[at..]);
 }
 
@@ -115,7 +115,7 @@ fn close(bundle: &[u8], more: usize, out: &mut [u8])
     let steps = bundle::step_distance(bundle) + more;
     let starts = bundle::start_distance(bundle) + more;
     let at = bundle.len() - fault::TRAILER_BYTES;
-    out.copy_from_slice(&bundle[at..]);
+    fault::copy(&bundle[at..], out);
     out[0] = fault::low(steps);
     out[1] = fault::high(steps);
     out[2] = fault::low(starts);

@@ -91,7 +91,7 @@ fn write(bundle: &[u8], rules: Rules, form: usize, words: &mut [u64; words::MOST
     requires { (Parts rules.sizes bundle.now) × (Runs rules.sizes rules.ends.now bundle.now) × (form ≤ most_form) × (length out.old ≡ length bundle.now) }
     ensures { WritesTo rules.entry.sizes rules.entry.ends.now bundle.now form out.new }
 {
-    out.copy_from_slice(bundle);
+    fault::copy(bundle, out);
     let at = bundle::steps_at(bundle);
     let end = bundle.len() - fault::TRAILER_BYTES;
     write_steps(bundle, rules, form, words, &mut out[at..end]);

@@ -15,5 +15,5 @@ pub bounds-out-3 : goal.bounds-out-3
 bounds-out-3 c = rw (length-set, length-set, length-set) (search rules)
 
 pub returns : goal.returns
-returns c = closed _ _ _ c.requires.0 c.copy_from_slice.ensures.after c.step_distance.ensures.0 c.start_distance.ensures.0
+returns c = closed _ _ _ c.requires.0 c.copy.ensures c.step_distance.ensures.0 c.start_distance.ensures.0
     c.low.ensures c.high.ensures (omega (arith, c.low-2.ensures)) (omega (arith, c.high-2.ensures))

@@ -15,21 +15,21 @@ pub overflow_sub-at : goal.overflow_sub-at
 unfolding made
 overflow_sub-at c = search rules
 
-pub slice_bounds-copy_from_slice-end : goal.slice_bounds-copy_from_slice-end
+pub slice_bounds-copy-end : goal.slice_bounds-copy-end
 unfolding made
-slice_bounds-copy_from_slice-end c = omega (arith, c.requires.3)
+slice_bounds-copy-end c = sym (length-take-le _ _ (omega arith))
 
-pub slice_bounds-copy_from_slice-end-2 : goal.slice_bounds-copy_from_slice-end-2
+pub slice_bounds-copy-end-2 : goal.slice_bounds-copy-end-2
 unfolding made
-slice_bounds-copy_from_slice-end-2 c = search rules
+slice_bounds-copy-end-2 c = search rules
 
-pub slice_bounds-copy_from_slice-end-3 : goal.slice_bounds-copy_from_slice-end-3
+pub slice_bounds-copy-end-3 : goal.slice_bounds-copy-end-3
 unfolding made
-slice_bounds-copy_from_slice-end-3 c = sym (length-take-le _ c.args.bundle.now (omega arith))
+slice_bounds-copy-end-3 c = sym (length-take-le _ c.args.out.now (omega (arith, c.requires.3)))
 
-pub copy_from_slice-requires : goal.copy_from_slice-requires
+pub copy-requires : goal.copy-requires
 unfolding made
-copy_from_slice-requires c = length-take-le (trailer_of c.args.bundle.now) c.args.out.now (omega (arith, c.requires.3)) ∙ sym (length-take-le (trailer_of c.args.bundle.now) c.args.bundle.now (omega arith))
+copy-requires c = length-take-le (trailer_of c.args.bundle.now) c.args.out.now (omega (arith, c.requires.3)) ∙ sym (length-take-le (trailer_of c.args.bundle.now) c.args.bundle.now (omega arith))
 
 pub slice_bounds-append-count : goal.slice_bounds-append-count
 unfolding made
@@ -49,7 +49,7 @@ append-requires c = let a = c.args in (
   c.requires.0,
   c.requires.1,
   c.requires.2,
-  tail_long c.copy_from_slice.new.self a.out.now (trailer_of a.bundle.now) (ap length c.copy_from_slice.ensures.after ∙ length-take-le (trailer_of a.bundle.now) a.bundle.now (omega arith)) _ (omega (arith, c.requires.0, c.requires.3)),
+  tail_long c.copy.new.to a.out.now (trailer_of a.bundle.now) (ap length c.copy.ensures ∙ length-take-le (trailer_of a.bundle.now) a.bundle.now (omega arith)) _ (omega (arith, c.requires.0, c.requires.3)),
 )
 
 pub shape_of-out : goal.shape_of-out
@@ -59,5 +59,5 @@ shape_of-out c = search rules
 pub returns : goal.returns
 unfolding made
 returns c = let a = c.args in
-    put_tail c.copy_from_slice.new.self a.out.now (trailer_of a.bundle.now) (ap length c.copy_from_slice.ensures.after ∙ length-take-le (trailer_of a.bundle.now) a.bundle.now (omega arith)) c.append.new.out
-    ∙ ap₂ (λ (x y : List ℕ). x ++ y) c.copy_from_slice.ensures.after c.append.ensures
+    put_tail c.copy.new.to a.out.now (trailer_of a.bundle.now) (ap length c.copy.ensures ∙ length-take-le (trailer_of a.bundle.now) a.bundle.now (omega arith)) c.append.new.out
+    ∙ ap₂ (λ (x y : List ℕ). x ++ y) c.copy.ensures c.append.ensures

@@ -9,8 +9,8 @@ use Rattle.translate.proofs.write.Goals as goal
 
 pub write_steps-requires : goal.write_steps-requires
 write_steps-requires c = let a = c.args in
-    (c.requires.0, c.requires.1, c.requires.2, steps_part a.bundle.now c.requires.0.parted c.steps_at-at.ensures.0 c.copy_from_slice.ensures.after (length a.bundle.now - 8 - c.steps_at-at.result) (omega (arith, c.steps_at-at.ensures.1)))
+    (c.requires.0, c.requires.1, c.requires.2, steps_part a.bundle.now c.requires.0.parted c.steps_at-at.ensures.0 c.copy.ensures (length a.bundle.now - 8 - c.steps_at-at.result) (omega (arith, c.steps_at-at.ensures.1)))
 
 pub returns : goal.returns
 returns c = let a = c.args in
-    λ (T : Runs a.rules.sizes a.rules.ends.now a.bundle.now). all-written a.bundle.now c.requires.0.parted c.steps_at-at.ensures.0 c.copy_from_slice.ensures.after (moved_by a.rules.sizes a.bundle.now T.design a.form) a.form (c.write_steps.ensures T)
+    λ (T : Runs a.rules.sizes a.rules.ends.now a.bundle.now). all-written a.bundle.now c.requires.0.parted c.steps_at-at.ensures.0 c.copy.ensures (moved_by a.rules.sizes a.bundle.now T.design a.form) a.form (c.write_steps.ensures T)

@@ -1,0 +1,8 @@
+-- The bytes of `from` below i stand in front of those that were there; at the end these are all, since both are as long.
+use mathlib.Core.Path.{◌≡◌}
+use mathlib.Core.List.{◌++◌}
+use lib.ListN.{take, drop}
+use Rattle.fault.proofs.copy.Given as goal
+
+abbrev pub invariant-loop-i : goal.invariant-loop-i
+invariant-loop-i l = l.to ≡ take l.i l.from ++ drop l.i l.initial.to
