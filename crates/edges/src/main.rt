@@ -183,7 +183,8 @@ fn lent(rt: &impl Print, n: usize) -> io::Result<()> {
     let bundle = echo::schedule();
     let standing = echo::table();
     let mut words = [9u64; 9];
-    print!(rt; "lent {n}")?;
+    print!(rt; "lent")?;
+    print_numbers(rt, &[n as u64])?;
     run_lent(rt, &bundle, &standing, &mut words, n)
 }
 
@@ -198,10 +199,9 @@ fn run_lent<'a>(
         return Ok(());
     }
     let a = engine::run(bundle, standing, &mut words[..n]);
-    print!(rt; ": {} {} {}", a.refusal, a.place, a.count)?;
-    for word in words.iter() {
-        print!(rt; " {word}")?;
-    }
+    print!(rt; ":")?;
+    print_numbers(rt, &[a.refusal, a.place, a.count])?;
+    print_numbers(rt, words)?;
     println!(rt;)
 }
 
@@ -211,13 +211,15 @@ fn raw(rt: &impl Print, length: usize, byte: u8) -> io::Result<()>
     requires { length < 17 }
 {
     let bytes = [byte; 17];
-    print!(rt; "raw {length} {byte}")?;
+    print!(rt; "raw")?;
+    print_numbers(rt, &[length as u64, u64::from(byte)])?;
     show(rt, bundle::read_fault(&bytes[..length], b""))
 }
 
 // A table of these counts before a schedule without steps for n = 64, t = 1, f = 1.
 fn table(rt: &impl Print, states: u8, rules: u8, types: u8, k: u8) -> io::Result<()> {
-    print!(rt; "table {states} {rules} {types} {k}")?;
+    print!(rt; "table")?;
+    print_numbers(rt, &[states, rules, types, k].map(u64::from))?;
     let case = Case {
         states,
         rules,
@@ -242,7 +244,10 @@ fn schedule(
     f: u8,
     form: u8,
 ) -> io::Result<()> {
-    print!(rt; "schedule {k} {starts} {steps} {n} {t} {f} {form}")?;
+    print!(rt; "schedule")?;
+    print_numbers(rt, &[k, starts].map(u64::from))?;
+    print_numbers(rt, &[u64::from(steps)])?;
+    print_numbers(rt, &[n, t, f, form].map(u64::from))?;
     let case = Case {
         k,
         starts,
@@ -259,10 +264,11 @@ fn schedule(
 // The usual bundle with up to three bytes changed: places, counted back from the end, and the bytes that are put there. Three are
 // printed, a change that there is not as 0 0.
 fn changed(rt: &impl Print, types: u8, changes: &[(usize, u8)]) -> io::Result<()> {
-    print!(rt; "changed {types}")?;
+    print!(rt; "changed")?;
+    print_numbers(rt, &[u64::from(types)])?;
     for i in 0..3 {
         let (back, byte) = changes.get(i).copied().unwrap_or((0, 0));
-        print!(rt; " {back} {byte}")?;
+        print_numbers(rt, &[back as u64, u64::from(byte)])?;
     }
     let case = Case { types, ..USUAL };
     show(rt, read(case, changes))
@@ -321,12 +327,20 @@ fn put(bytes: &mut [u8], at: usize, byte: u8) {
 
 // ---- printing
 fn show(rt: &impl Print, read: Result<(), Refused>) -> io::Result<()> {
-    match read {
-        Ok(()) => println!(rt; ": 0 0"),
-        Err(refused) => {
-            let number = refused.refusal.number();
-            let place = refused.place;
-            println!(rt; ": {number} {place}")
-        }
+    let (number, place) = match read {
+        Ok(()) => (0, 0),
+        Err(refused) => (refused.refusal.number(), refused.place),
+    };
+    print!(rt; ":")?;
+    print_numbers(rt, &[number as u64, place as u64])?;
+    println!(rt;)
+}
+
+// Each after a blank: a number at a time, so that what stands before an error is what it was (docs/DECISIONS.md).
+fn print_numbers(rt: &impl Print, numbers: &[u64]) -> io::Result<()> {
+    for number in numbers.iter() {
+        print!(rt; " ")?;
+        print!(rt; "{number}")?;
     }
+    Ok(())
 }

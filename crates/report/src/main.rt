@@ -78,7 +78,9 @@ fn print_configuration(rt: &impl Print, s: Sizes, w: &[u64]) -> io::Result<()>
     }
     print_sent(rt, s, w)?;
     let stopped = words::stopped_in(s, w);
-    println!(rt; "stopped {stopped}")
+    print!(rt; "stopped")?;
+    print!(rt; " {stopped}")?;
+    println!(rt;)
 }
 
 // Board, state, then the counts of each type.
@@ -86,7 +88,10 @@ fn print_board(rt: &impl Print, s: Sizes, w: &[u64], p: usize) -> io::Result<()>
     requires { (Bounded s) × (p < s.correct) × (length w.now ≡ room_of s) }
 {
     let state = words::state_in(s, w, p);
-    print!(rt; "p {p} {state}")?;
+    // Number by number, so that what stands before an error is what it was (docs/DECISIONS.md).
+    print!(rt; "p")?;
+    print!(rt; " {p}")?;
+    print!(rt; " {state}")?;
     for m in 0..s.types {
         print_cell(rt, s, w, p, m)?;
     }
