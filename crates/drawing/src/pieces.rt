@@ -41,7 +41,8 @@ fn is_blank(c: usize) -> bool
     (c == 32) | (c == 9) | (c == 10) | (c == 13)
 }
 
-// The place after the blanks from i on.
+// The place after the blanks from i on. Out of line: within a longer function its loop counts a dozen places of the loops around it at each blank.
+#[inline(never)]
 pub fn skip(text: &[u8], i: usize) -> usize
     requires { i ≤ length text.now }
     ensures { Skipped text.now i result }
