@@ -150,10 +150,10 @@ module _ (s o c : ℕ) (l : c ≤ 64) (h : o < 2 ^ 64) where
   cut : Cut c 64 (missing s o) (mem (bit_and s ((2 ^ 64 - 1) - o)))
   cut = least-cut c 64 _ _ l (λ i j. mem-missing s o i h (omega arith))
 
-  lowest-below : zeros < c → zeros ≡ least c (missing s o)
+  pub lowest-below : zeros < c → zeros ≡ least c (missing s o)
   lowest-below b = trailing_least 64 _ ∙ cut.below (rw (← trailing_least 64 (bit_and s ((2 ^ 64 - 1) - o))) b)
 
-  lowest-none : c ≤ zeros → c ≡ least c (missing s o)
+  pub lowest-none : c ≤ zeros → c ≡ least c (missing s o)
   lowest-none b = cut.none (rw (← trailing_least 64 (bit_and s ((2 ^ 64 - 1) - o))) b)
 
   pub lowest_within : {z m : ℕ} → z ≡ zeros → m ≡ min z c → m ≡ least c (missing s o)
